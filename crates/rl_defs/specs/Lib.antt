@@ -1,0 +1,4 @@
+pub mod Words
+pub mod Padded
+pub mod NameBack
+pub mod LogValue
