@@ -2,3 +2,4 @@ pub mod Words
 pub mod Padded
 pub mod NameBack
 pub mod LogValue
+pub mod Refusals

@@ -14,7 +14,10 @@ pub struct Numbered<F: Drop> {
 #[derive(Debug, Drop)]
 pub enum PlanLine {
     /// `load NAME = DOMAIN`
-    Load { name: Name, domain: Name },
+    Load {
+        name: Name,
+        domain: Name,
+    },
     /// `bind LOAD.IMPORT = TARGET`
     Bind {
         load: Name,
@@ -28,7 +31,10 @@ pub enum PlanLine {
         restarts: u64,
     },
     /// `device LOAD N`
-    Device { load: Name, blocks: u64 },
+    Device {
+        load: Name,
+        blocks: u64,
+    },
     /// `serial LOAD`
     Serial(Name),
     /// `fuel N`

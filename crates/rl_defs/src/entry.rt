@@ -34,7 +34,10 @@ pub enum Entry {
         results: Results,
     },
     /// The call ends since its instance has ended.
-    Unwound { thread: u32, call: u32 },
+    Unwound {
+        thread: u32,
+        call: u32,
+    },
     /// The shadow's load gets a fresh instance; `left` restarts are left.
     Reload {
         thread: u32,
@@ -56,7 +59,10 @@ pub enum Entry {
         cause: Cause,
     },
     /// A client ends the instance.
-    Kill { thread: u32, instance: u32 },
+    Kill {
+        thread: u32,
+        instance: u32,
+    },
     /// An object is made. The values are those that `let` or `text` gave.
     New {
         thread: u32,
@@ -66,7 +72,10 @@ pub enum Entry {
         values: List<u64>,
     },
     /// The object is given up.
-    Drop { thread: u32, object: u64 },
+    Drop {
+        thread: u32,
+        object: u64,
+    },
     /// Cells of the object are set, from a place on.
     Set {
         thread: u32,
@@ -96,9 +105,17 @@ pub enum Entry {
         object: u64,
     },
     /// The object's cells become those of the device's block.
-    DevGet { thread: u32, object: u64, block: u64 },
+    DevGet {
+        thread: u32,
+        object: u64,
+        block: u64,
+    },
     /// The device's block becomes the object's cells.
-    DevPut { thread: u32, block: u64, object: u64 },
+    DevPut {
+        thread: u32,
+        block: u64,
+        object: u64,
+    },
     /// An object moves into a cell of another.
     Hang {
         thread: u32,
@@ -120,9 +137,14 @@ pub enum Entry {
         values: List<Value>,
     },
     /// The command with this number uses a name that isn't bound, or finds the heap full.
-    Skip { thread: u32, command: u32 },
+    Skip {
+        thread: u32,
+        command: u32,
+    },
     /// The script has ended.
-    Done { thread: u32 },
+    Done {
+        thread: u32,
+    },
     /// The object is freed, since nobody can reach it any more.
     Free(u64),
 }

@@ -95,8 +95,8 @@ pub trait View {
         ensures { result ≡ word self.now at };
 
     /// The object in a slot of the instance. None exactly where the slot is empty.
-    fn slot(&self, slot: u32) -> Option<u64>
-        ensures { result ≡ slot self.now slot };
+    fn slot(&self, at: u32) -> Option<u64>
+        ensures { result ≡ slot self.now at };
 
     /// The object in an `RRef` cell of an object. None exactly where the place is no such cell or is empty.
     fn hung(&self, object: u64, at: u64) -> Option<u64>

@@ -61,9 +61,17 @@ pub enum ScriptArg {
 #[derive(Debug, Drop)]
 pub enum Command {
     /// Makes an object whose first cells have these values.
-    Let { name: u32, ty: u32, values: List<u64> },
+    Let {
+        name: u32,
+        ty: u32,
+        values: List<u64>,
+    },
     /// Makes an object whose first cells have these bytes.
-    Text { name: u32, ty: u32, bytes: List<u8> },
+    Text {
+        name: u32,
+        ty: u32,
+        bytes: List<u8>,
+    },
     /// Calls a method of a target. The names are bound to its results.
     Call {
         target: u32,
