@@ -3,3 +3,8 @@ pub mod Padded
 pub mod NameBack
 pub mod LogValue
 pub mod Refusals
+pub mod Domains
+pub mod State
+pub mod Loans
+pub mod Registers
+pub mod Wanted

@@ -18,7 +18,7 @@ abbrev pub is_word : List ℕ → Bool
 is_word bytes = (starts_word bytes && nat_le (length bytes) 24) && list_all is_word_byte bytes
 
 -- whether two lists of bytes are the same
-unfoldable pub same_bytes : List ℕ → List ℕ → Bool
+abbrev pub same_bytes : List ℕ → List ℕ → Bool
 same_bytes = pointwise ◌==◌
 
 -- the words that a line form uses

@@ -160,7 +160,6 @@ fn is_one_of(bytes: &[u8], words: &[&[u8]]) -> bool
     words.iter().any(|word| same_bytes(word, bytes))
 }
 
-#[tactic(auto, unfolding(crate::specs::Words::same_bytes))]
 fn same_bytes(left: &[u8], right: &[u8]) -> bool
     ensures { result ≡ same_bytes left.now right.now }
 {
