@@ -1,10 +1,9 @@
 -- What the text of a domain declares, and the rows that a load's numbers stand for.
-use Rattle.std.specs.Prelude.{ℕ, zero, suc, ◌+◌, ◌-◌, Bool, true, false, List, [], ◌∷◌, length, Option, Some, None, slice_get}
-use Rattle.std.specs.List.{position_or_len}
+use Rattle.std.specs.Prelude.{ℕ, zero, suc, ◌+◌, ◌-◌, ◌||◌, Bool, true, false, List, [], ◌∷◌, length, Option, Some, None, slice_get}
+use Rattle.std.specs.List.{position_or_len, list_any}
 use Rattle.rl_defs.specs.declared.bundle.Numbered.{Numbered}
 use Rattle.rl_defs.specs.declared.code.DomainLine.{DomainLine}
 use Rattle.rl_defs.specs.declared.code.DomainLine.TheVariants as line
-use Rattle.rl_defs.specs.declared.code.Native.{Native}
 use Rattle.rl_defs.specs.declared.code.Native.TheVariants as native
 use Rattle.rl_defs.specs.declared.code.DomainText.{DomainText}
 use Rattle.rl_defs.specs.declared.load.Load.{Load}
@@ -103,13 +102,21 @@ lines_of_row L (Some l) = domain_of L l.domain
 abbrev pub lines_of_load : Load → ℕ → Lines
 lines_of_load L k = lines_of_row L (load_row L k)
 
--- whether one thread at a time may be in a load's instances
-abbrev pub is_serial_row : Option LoadRow → Bool
-is_serial_row None = false
-is_serial_row (Some l) = l.serial
+-- whether a domain has a native body
+abbrev pub names_native : DomainLine → Bool
+names_native (line.Native n) = true
+names_native _ = false
+
+abbrev pub is_native : Lines → Bool
+is_native lines = list_any (λ l. names_native l.form) lines
+
+-- whether one thread at a time may be in a load's instances: where the plan says so, and with a native body always
+abbrev pub is_serial_row : Load → Option LoadRow → Bool
+is_serial_row L None = false
+is_serial_row L (Some l) = l.serial || is_native (domain_of L l.domain)
 
 abbrev pub is_serial : Load → ℕ → Bool
-is_serial L k = is_serial_row (load_row L k)
+is_serial L k = is_serial_row L (load_row L k)
 
 -- the method of a target
 abbrev pub method_of : Load → ℕ → ℕ → Option MethodRow

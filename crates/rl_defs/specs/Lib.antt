@@ -8,3 +8,9 @@ pub mod State
 pub mod Loans
 pub mod Registers
 pub mod Wanted
+pub mod Crossing
+pub mod Step
+pub mod Run
+pub mod Texts
+pub mod Small
+pub mod Worked

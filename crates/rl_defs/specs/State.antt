@@ -1,5 +1,6 @@
 -- The states of the domain machine.
 use Rattle.std.specs.Prelude.{ℕ, zero, suc, ◌+◌, ◌-◌, Bool, true, false, List, [], ◌∷◌, length, map, replicate, Option, Some, None, slice_get, slice_set}
+use Rattle.std.specs.List.{flat_map}
 use Rattle.rl_defs.specs.declared.values.Value.{Value}
 use Rattle.rl_defs.specs.declared.values.Owner.{Owner}
 use Rattle.rl_defs.specs.declared.frame.Frame.{Frame}
@@ -8,6 +9,8 @@ use Rattle.rl_defs.specs.declared.load.Load.{Load}
 use Rattle.rl_defs.specs.declared.load.LoadRow.{LoadRow}
 use Rattle.rl_defs.specs.declared.load.ClientRow.{ClientRow}
 use Rattle.rl_defs.specs.declared.load.ShadowRow.{ShadowRow}
+use Rattle.rl_defs.specs.declared.load.Command.{Command}
+use Rattle.rl_defs.specs.declared.load.Command.TheVariants as command
 use Rattle.rl_defs.specs.Domains.{domain_of, words_of, slots_of}
 
 -- an instance of a load: live or ended, with its words and its slots
@@ -32,6 +35,13 @@ pub record Object : Type 0 where
 -- a frame; of a native body it has the action that the body wants next
 abbrev pub StackFrame : Type 0
 StackFrame = Frame Action
+
+-- the script names that a command binds, each the place of its binding among those of the client
+abbrev pub bound_by : Command → List ℕ
+bound_by (command.Let name ty values) = name ∷ []
+bound_by (command.Text name ty bytes) = name ∷ []
+bound_by (command.Call target method args names) = names
+bound_by _ = []
 
 -- a client's thread beside its stack: its fuel, the next command's place in the script, what the script's names hold
 pub record Thread : Type 0 where
@@ -106,8 +116,8 @@ abbrev pub first_instances : Load → ℕ → List LoadRow → List Instance
 first_instances L k [] = []
 first_instances L k (l ∷ ls) = first_instance L k l ∷ first_instances L (k + 1) ls
 
-abbrev pub first_thread : Thread
-first_thread = record { fuel = 0; place = 0; names = []; done = false }
+abbrev pub first_thread : ClientRow → Thread
+first_thread client = record { fuel = 0; place = 0; names = replicate (length (flat_map bound_by client.commands)) None; done = false }
 
 abbrev pub first_shadow : ShadowRow → Shadow
 first_shadow x = record { current = x.load; left = x.restarts }
@@ -120,7 +130,7 @@ start L = record {
   instances = first_instances L 1 L.loads;
   objects = [];
   stacks = map (λ client. no_frames) L.clients;
-  threads = map (λ client. first_thread) L.clients;
+  threads = map first_thread L.clients;
   shadows = map first_shadow L.shadows;
   blocks = replicate L.blocks (replicate 64 0);
   next_object = 1;

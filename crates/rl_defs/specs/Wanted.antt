@@ -1,5 +1,5 @@
 -- What a thread would do next.
-use Rattle.std.specs.Prelude.{ℕ, zero, suc, ◌+◌, ◌-◌, ◌&&◌, not, nat_le, nat_lt, Bool, true, false, if◌then◌else◌, List, [], ◌∷◌, ◌++◌, length, map, take, Option, Some, None, slice_get}
+use Rattle.std.specs.Prelude.{ℕ, ◌+◌, ◌&&◌, not, nat_le, Bool, true, false, if◌then◌else◌, List, [], ◌∷◌, length, Option, Some, None, slice_get}
 use Rattle.std.specs.List.{slice_index_or, list_all, flat_map}
 use Rattle.rl_defs.specs.declared.values.Value.{Value}
 use Rattle.rl_defs.specs.declared.values.Value.TheVariants as value

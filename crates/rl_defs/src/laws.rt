@@ -1,0 +1,8 @@
+//! Laws of the machine: functions with nothing to do, whose contracts are facts about the definitions.
+ghost use Rattle.rl_defs.specs.Worked.{IsWorked};
+
+/// The definitions, on one worked example: where a client adds 2 and 3, the history of a call, its return and the end of the script is
+/// a whole and an ordered run, and its text is the one that the program is to print.
+pub fn worked_sum()
+    ensures { IsWorked }
+{}

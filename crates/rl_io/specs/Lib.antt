@@ -1,0 +1,4 @@
+pub mod Causes
+pub mod Adapters
+pub mod InMemory
+pub mod Whole
