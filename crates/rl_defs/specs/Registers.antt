@@ -1,5 +1,5 @@
 -- Register work: what the lines of domain code come to, up to the next action or trap.
-use Rattle.std.specs.Prelude.{ℕ, zero, suc, ◌+◌, ◌%◌, ◌^◌, List, Option, Some, None, slice_get, slice_set}
+use Rattle.std.specs.Prelude.{ℕ, zero, suc, ◌+◌, ◌%◌, ◌^◌, List, Option, Some, None, slice_get, slice_set, nat_le, if◌then◌else◌, length}
 use Rattle.std.specs.List.{slice_index_or, filter_map}
 use Rattle.rl_defs.specs.declared.values.Value.{Value}
 use Rattle.rl_defs.specs.declared.values.Value.TheVariants as value
@@ -53,10 +53,14 @@ abbrev pub math : MathOp → Registers → Register → Option ℕ → Option �
 math o regs a (Some x) (Some y) = with_result regs a (calculate o x y)
 math o regs a _ _ = Stuck
 
+-- a return has at most 4 results
+abbrev pub returning : Registers → List Register → Outcome
+returning regs results = if nat_le (length results) 4 then Would (action.Ret (filter_map (value_in regs) results)) else Stuck
+
 -- an instruction's meaning. Those that are not there yet are stuck
 abbrev pub meaning : Instr → Registers → Outcome
 meaning (instr.Math o a b c) regs = math o regs a (number_in regs b) (number_in regs c)
-meaning (instr.Ret results) regs = Would (action.Ret (filter_map (value_in regs) results))
+meaning (instr.Ret results) regs = returning regs results
 meaning _ regs = Stuck
 
 -- where register work ends: before an action, with the fuel, the line and the registers there
@@ -69,15 +73,16 @@ go_on (Works after) next fuel at regs = next after
 go_on (Would act) next fuel at regs = Before act fuel at regs
 go_on Stuck next fuel at regs = Nowhere
 
-abbrev pub by_form : DomainLine → (Registers → Settled) → ℕ → ℕ → Registers → Settled
-by_form (line.Code i) next fuel at regs = go_on (meaning i regs) next fuel at regs
-by_form _ next fuel at regs = Nowhere
+-- a line that is no instruction is stuck
+abbrev pub form_meaning : DomainLine → Registers → Outcome
+form_meaning (line.Code i) regs = meaning i regs
+form_meaning _ regs = Stuck
 
-abbrev pub by_line : Option (Numbered DomainLine) → (Registers → Settled) → ℕ → ℕ → Registers → Settled
-by_line None next fuel at regs = Nowhere
-by_line (Some l) next fuel at regs = by_form l.form next fuel at regs
+abbrev pub line_meaning : Option (Numbered DomainLine) → Registers → Outcome
+line_meaning None regs = Stuck
+line_meaning (Some l) regs = form_meaning l.form regs
 
 -- the first action from a line on. Each instruction costs 1, and one that would begin at fuel 0 is the trap `fuel`
 abbrev pub settle : Lines → ℕ → ℕ → Registers → Settled
 settle lines zero at regs = Before (action.Trap cause.Fuel) 0 at regs
-settle lines (suc fuel) at regs = by_line (slice_get lines at) (settle lines fuel (at + 1)) (suc fuel) at regs
+settle lines (suc fuel) at regs = go_on (line_meaning (slice_get lines at) regs) (settle lines fuel (at + 1)) (suc fuel) at regs

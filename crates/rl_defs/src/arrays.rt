@@ -1,5 +1,5 @@
 //! Short lists that never take memory, one type for each item and size that is used. Contracts see each as the list of its items.
-ghost use Rattle.std.specs.Prelude.{◌≡◌, [], ◌∷◌, ◌++◌, ◌<◌, length, slice_get, slice_set, replicate, Some, None};
+ghost use Rattle.std.specs.Prelude.{◌≡◌, [], ◌∷◌, ◌++◌, ◌<◌, ◌≤◌, length, slice_get, slice_set, replicate, Some, None};
 ghost use Rattle.std.specs.List.{slice_index_or};
 ghost use Rattle.std.specs.Option.{option_copied};
 
@@ -42,7 +42,8 @@ impl Args {
 
     /// All of them, in order.
     pub fn as_slice(&self) -> &[Arg]
-        ensures { result.now ≡ self.now }
+        ensures value { result.now ≡ self.now }
+        ensures few { length self.now ≤ 8 }
     {
         self.items.as_slice()
     }
@@ -53,6 +54,17 @@ impl Args {
         ensures { self.new ≡ self.old ++ item ∷ [] }
     {
         self.items.push(item);
+    }
+
+    /// The same arguments once more.
+    pub fn copied(&self) -> Args
+        ensures { result ≡ self.now }
+    {
+        let mut all = Args::new();
+        'each: for arg in self.as_slice() {
+            all.push(*arg);
+        }
+        all
     }
 }
 
@@ -90,7 +102,8 @@ impl Results {
 
     /// All of them, in order.
     pub fn as_slice(&self) -> &[Value]
-        ensures { result.now ≡ self.now }
+        ensures value { result.now ≡ self.now }
+        ensures few { length self.now ≤ 4 }
     {
         self.items.as_slice()
     }
@@ -137,7 +150,8 @@ impl Objects {
 
     /// All of them, in order.
     pub fn as_slice(&self) -> &[u64]
-        ensures { result.now ≡ self.now }
+        ensures value { result.now ≡ self.now }
+        ensures few { length self.now ≤ 8 }
     {
         self.items.as_slice()
     }
@@ -184,7 +198,8 @@ impl Numbers {
 
     /// All of them, in order.
     pub fn as_slice(&self) -> &[u64]
-        ensures { result.now ≡ self.now }
+        ensures value { result.now ≡ self.now }
+        ensures few { length self.now ≤ 512 }
     {
         self.items.as_slice()
     }

@@ -15,6 +15,7 @@ pub mod laws;
 pub mod list;
 pub mod load;
 pub mod log;
+pub mod lookups;
 pub mod name;
 pub mod tables;
 pub mod values;

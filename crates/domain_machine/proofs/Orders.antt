@@ -1,0 +1,29 @@
+-- Turns in the order of the order list.
+use Rattle.std.proofs.Common.{◌≡◌, ℕ, ◌+◌, ◌<◌, [], ◌++◌, length, Some, refl, sym, ap, ◌∙◌, append_assoc, append-nil, subst, arith, length-append}
+use Rattle.rl_defs.specs.Run.{Stays, Turns, next_turn}
+use Rattle.rl_defs.specs.Step.{Step}
+use Rattle.rl_defs.specs.declared.load.Load.{Load}
+use Rattle.domain_machine.specs.Kept.{Kept}
+use Rattle.domain_machine.specs.Turns.{Went, WentInOrder}
+
+-- no turn
+pub in_order_none : (a : Kept) → WentInOrder a a 0
+in_order_none a = record { entries = []; turns = Stays refl refl refl; log = sym (append-nil a.log); load = refl }
+
+-- one turn more
+pub in_order_more : (a b c : Kept) (p p' t : ℕ) → WentInOrder a b p → next_turn b.load b.state p ≡ Some (t, p') → Went t b c → WentInOrder a c p'
+in_order_more a b c p p' t before next went =
+    let P : Load → Type 0 = λ K. next_turn K b.state p ≡ Some (t, p') in
+    let Q : Load → Type 0 = λ K. Step K b.state t went.entries c.state in record {
+      entries = before.entries ++ went.entries;
+      turns = Turns t p' went.entries before.turns (subst P before.load next) (subst Q before.load went.step) refl;
+      log = went.log ∙ ap (λ xs. xs ++ went.entries) before.log ∙ append_assoc a.log before.entries went.entries;
+      load = went.load ∙ before.load;
+    }
+
+-- a turn makes the log longer
+pub longer : (a b : Kept) (t : ℕ) → Went t a b → length a.log < length b.log
+longer a b t went =
+    let e : length b.log ≡ length a.log + length went.entries = ap length went.log ∙ length-append a.log went.entries in
+    let n : 0 < length went.entries = rw went.step.all (omega arith) in
+    omega arith

@@ -1,0 +1,5 @@
+pub mod Kept
+pub mod Turns
+pub mod SmallStates
+pub mod World
+pub mod Work
