@@ -1,0 +1,7 @@
+use Rattle.std.proofs.Common.{◌≡◌, take}
+use Rattle.std.specs.Prelude.{map}
+use Rattle.rl_defs.specs.Small.{command_of}
+use Rattle.redleaf_app.proofs.small_load.commands.Given as goal
+
+abbrev pub invariant-pairs : goal.invariant-pairs
+invariant-pairs l = l.list ≡ map command_of (take l.pair-index l.numbers)

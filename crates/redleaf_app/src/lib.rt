@@ -1,0 +1,15 @@
+//! What the program does with its input and output: one call from the bytes that come in to the bytes that go out.
+#![tactic(auto)]
+
+mod calm;
+mod put;
+mod small;
+mod small_load;
+mod status;
+mod tallies;
+#[cfg(test)]
+mod tests;
+mod texts;
+
+pub use calm::{LONGEST_BUNDLE, redleaf_calm};
+pub use status::Status;

@@ -1,0 +1,170 @@
+//! The load of a small form.
+ghost use Rattle.std.specs.Prelude.{◌≡◌, ◌<◌, [], ◌∷◌, IsTrue, IfOk, map};
+ghost use Rattle.rl_defs.specs.Words.{is_name};
+ghost use Rattle.rl_defs.specs.Small.{small_tables, small_domain, small_load, command_of, number_kind, at_line, register, r0, r1, r2};
+ghost use Rattle.rl_defs.specs.declared.code.DomainLine.TheVariants as form;
+ghost use Rattle.rl_defs.specs.declared.code.Instr.TheVariants as instr;
+ghost use Rattle.rl_defs.specs.declared.code.MathOp.TheVariants as op;
+
+use rl_defs::Memory;
+use rl_defs::bundle::Numbered;
+use rl_defs::code::{DomainLine, DomainText, Instr, MathOp, Register};
+use rl_defs::list::List;
+use rl_defs::load::{CheckedDomain, ClientRow, Command, Load, LoadRow, ScriptArg};
+use rl_defs::name::Name;
+use rl_defs::tables::{Kind, MethodRow, Tables, TraitRow, Width};
+use std::alloc::Global;
+
+// The name that a text is.
+fn name_of(text: &[u8]) -> Name
+    requires { IsTrue (is_name text.now) }
+    ensures { result ≡ text.now }
+{
+    match Name::read(text) {
+        Some(name) => name,
+        None => unreachable!(),
+    }
+}
+
+fn list_of<T: Drop>(alloc: Global, item: T) -> Result<List<T>, Memory>
+    ensures { IfOk result (λ l. l ≡ item ∷ []) }
+{
+    let mut list = List::new(alloc);
+    list.push(item)?;
+    Ok(list)
+}
+
+// The trait `Math` with its method `add`.
+fn math_trait(alloc: Global) -> Result<TraitRow, Memory>
+    ensures { IfOk result (λ t. t ∷ [] ≡ small_tables.traits) }
+{
+    let mut params = list_of(alloc, Kind::Num(Width::W64))?;
+    params.push(Kind::Num(Width::W64))?;
+    let add = MethodRow {
+        name: name_of(b"add"),
+        idempotent: false,
+        params,
+        results: list_of(alloc, Kind::Num(Width::W64))?,
+    };
+    Ok(TraitRow {
+        name: name_of(b"Math"),
+        methods: list_of(alloc, add)?,
+    })
+}
+
+fn tables(alloc: Global) -> Result<Tables, Memory>
+    ensures { IfOk result (λ t. t ≡ small_tables) }
+{
+    Ok(Tables {
+        structs: List::new(alloc),
+        traits: list_of(alloc, math_trait(alloc)?)?,
+    })
+}
+
+// A line of the domain.
+fn at_line(line: u32, form: DomainLine) -> Numbered<DomainLine>
+    ensures { result ≡ at_line line form }
+{
+    Numbered { line, form }
+}
+
+// A register, by its number.
+fn register(number: u8) -> Register
+    requires { number < 32 }
+    ensures { (below : number < 32) → result ≡ register number below }
+{
+    Register { number }
+}
+
+// `add r2, r0, r1`
+fn sum_line() -> DomainLine
+    ensures { result ≡ form.Code (instr.Math op.Add r2 r0 r1) }
+{
+    let sum = register(2);
+    let left = register(0);
+    let right = register(1);
+    DomainLine::Code(Instr::Math(MathOp::Add, sum, left, right))
+}
+
+// `ret r2`
+fn return_line(alloc: Global) -> Result<DomainLine, Memory>
+    ensures { IfOk result (λ l. l ≡ form.Code (instr.Ret (r2 ∷ []))) }
+{
+    let sum = register(2);
+    let results = list_of(alloc, sum)?;
+    Ok(DomainLine::Code(Instr::Ret(results)))
+}
+
+// The domain `Calc`, whose function adds its two parameters.
+fn domain(alloc: Global) -> Result<DomainText, Memory>
+    ensures { IfOk result (λ t. t ≡ small_domain) }
+{
+    let head = DomainLine::Domain(name_of(b"Calc"), name_of(b"Math"));
+    let mut lines = list_of(alloc, at_line(6, head))?;
+    lines.push(at_line(7, DomainLine::Function(name_of(b"add"))))?;
+    lines.push(at_line(8, sum_line()))?;
+    lines.push(at_line(9, return_line(alloc)?))?;
+    lines.push(at_line(10, DomainLine::Close))?;
+    lines.push(at_line(11, DomainLine::Close))?;
+    Ok(DomainText { lines })
+}
+
+// The domain, checked against the tables.
+fn checked_domain(alloc: Global, tables: &Tables) -> Result<CheckedDomain, Memory>
+    ensures { IfOk result (λ d. d ≡ small_domain) }
+{
+    CheckedDomain::new(domain(alloc)?, tables)
+}
+
+// The call that adds two numbers.
+fn command(alloc: Global, pair: (u64, u64)) -> Result<Command, Memory>
+    ensures { IfOk result (λ c. c ≡ command_of pair) }
+{
+    let mut args = list_of(alloc, ScriptArg::Num(pair.0))?;
+    args.push(ScriptArg::Num(pair.1))?;
+    Ok(Command::Call {
+        target: 1,
+        method: 0,
+        args,
+        names: List::new(alloc),
+    })
+}
+
+fn commands(alloc: Global, numbers: &[(u64, u64)]) -> Result<List<Command>, Memory>
+    ensures { IfOk result (λ l. l ≡ map command_of numbers.now) }
+{
+    let mut list = List::new(alloc);
+    'pairs: for pair in numbers {
+        list.push(command(alloc, *pair)?)?;
+    }
+    Ok(list)
+}
+
+/// The load of the calls with these numbers.
+pub fn load_of(alloc: Global, numbers: &[(u64, u64)]) -> Result<Load, Memory>
+    ensures { IfOk result (λ l. l ≡ small_load numbers.now) }
+{
+    let tables = tables(alloc)?;
+    let domain = checked_domain(alloc, &tables)?;
+    let calc = LoadRow {
+        name: name_of(b"calc"),
+        domain: 0,
+        serial: false,
+        binds: List::new(alloc),
+    };
+    let client = ClientRow {
+        name: name_of(b"a"),
+        commands: commands(alloc, numbers)?,
+    };
+    Ok(Load {
+        tables,
+        domains: list_of(alloc, domain)?,
+        loads: list_of(alloc, calc)?,
+        shadows: List::new(alloc),
+        clients: list_of(alloc, client)?,
+        order: List::new(alloc),
+        fuel: 10_000,
+        device_load: 0,
+        blocks: 0,
+    })
+}
