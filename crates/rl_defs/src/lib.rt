@@ -8,6 +8,7 @@
 pub mod arrays;
 pub mod bundle;
 pub mod code;
+pub mod copies;
 pub mod entry;
 pub mod frame;
 pub mod idl;
@@ -17,6 +18,7 @@ pub mod load;
 pub mod log;
 pub mod lookups;
 pub mod name;
+pub mod same;
 pub mod tables;
 pub mod values;
 
