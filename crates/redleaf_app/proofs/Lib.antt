@@ -1,8 +1,8 @@
 pub mod Lines
 pub mod Numbers
 pub mod Registers
+pub mod Finished
 pub mod Histories
 pub mod KeptTallies
-pub mod Runs
 pub mod Whole
 pub mod Words

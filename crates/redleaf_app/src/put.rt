@@ -79,7 +79,7 @@ pub fn put_owner(out: &mut Vec<u8>, owner: Owner) -> Result<(), Memory>
     }
 }
 
-/// Puts a target behind a blank.
+// Puts a target behind a blank.
 fn put_target(out: &mut Vec<u8>, load: &Load, target: u32) -> Result<(), Memory>
     ensures { OnOk result (out.new.items ≡ out.old.items ++ text.spaced (text.target_text load.now target)) }
 {
@@ -87,7 +87,7 @@ fn put_target(out: &mut Vec<u8>, load: &Load, target: u32) -> Result<(), Memory>
     put(out, load.target_name(target))
 }
 
-/// Puts an argument behind a blank.
+// Puts an argument behind a blank.
 fn put_arg(out: &mut Vec<u8>, load: &Load, arg: Arg) -> Result<(), Memory>
     ensures { OnOk result (out.new.items ≡ out.old.items ++ text.spaced (text.arg_text load.now arg)) }
 {
@@ -112,7 +112,7 @@ pub fn put_args(out: &mut Vec<u8>, load: &Load, args: &[Arg]) -> Result<(), Memo
     Ok(())
 }
 
-/// Puts a value behind a blank.
+// Puts a value behind a blank.
 fn put_value(out: &mut Vec<u8>, load: &Load, value: Value) -> Result<(), Memory>
     ensures { OnOk result (out.new.items ≡ out.old.items ++ text.spaced (text.value_text load.now value)) }
 {
@@ -180,14 +180,7 @@ pub fn cause_word(cause: Cause) -> &'static [u8]
     }
 }
 
-/// Puts the name of a struct behind a blank.
-pub fn put_struct(out: &mut Vec<u8>, load: &Load, ty: u32) -> Result<(), Memory>
-    ensures { OnOk result (out.new.items ≡ out.old.items ++ text.spaced (text.struct_name load.now ty)) }
-{
-    put_word(out, struct_name(load, ty))
-}
-
-// The name of a struct. A number that stands for none has the empty name.
+// The name of a struct.
 fn struct_name(load: &Load, ty: u32) -> &[u8]
     ensures { result.now ≡ text.struct_name load.now ty }
 {
@@ -195,4 +188,11 @@ fn struct_name(load: &Load, ty: u32) -> &[u8]
         Some(row) => row.name.bytes(),
         None => b"",
     }
+}
+
+/// Puts the name of a struct behind a blank.
+pub fn put_struct(out: &mut Vec<u8>, load: &Load, ty: u32) -> Result<(), Memory>
+    ensures { OnOk result (out.new.items ≡ out.old.items ++ text.spaced (text.struct_name load.now ty)) }
+{
+    put_word(out, struct_name(load, ty))
 }
