@@ -3,3 +3,5 @@ pub mod Padded
 pub mod NameBack
 pub mod LogValue
 pub mod Refusals
+pub mod Lines
+pub mod Tokens

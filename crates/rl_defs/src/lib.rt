@@ -11,6 +11,7 @@ pub mod code;
 pub mod entry;
 pub mod frame;
 pub mod idl;
+pub mod lexeme;
 pub mod list;
 pub mod load;
 pub mod log;
