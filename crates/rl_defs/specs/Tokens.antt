@@ -3,6 +3,7 @@ use Rattle.std.specs.Prelude.{◌≡◌, ℕ, ◌+◌, ◌^◌, ◌<◌, ◌≤�
 use Rattle.std.specs.List.{list_all}
 use Rattle.std.specs.Str.Parse.{IsNumeral, digits_value}
 use Rattle.rl_defs.specs.Words.{is_word_byte, is_name}
+use Rattle.rl_defs.specs.Refusals.{Failing}
 use Rattle.rl_defs.specs.declared.lexeme.Key.{Key}
 use Rattle.rl_defs.specs.declared.lexeme.Key.TheVariants as k
 use Rattle.rl_defs.specs.declared.lexeme.Mark.{Mark}
@@ -132,18 +133,22 @@ pub record IsLine (line : List ℕ) : Type 0 where
   pub short : length line ≤ 2048
   pub bytes : IsTrue (list_all is_line_byte line)
 
--- A line that begins at a place has these tokens there.
-pub record HasPlaced (place : ℕ) (ps : List Placed) (line : List ℕ) : Type 0 where
+-- A line has these tokens at these places of it.
+pub record HasPlaced (ps : List Placed) (line : List ℕ) : Type 0 where
   pub fits : IsLine line
-  pub tokens : ArePlaced place ps line
+  pub tokens : ArePlaced 0 ps line
 
 abbrev pub tokens_of : List Placed → List Token
 tokens_of ps = map (λ p. p.token) ps
 
 -- A line has these tokens.
 abbrev pub HasTokens : List Token → List ℕ → Type 0
-HasTokens ts line = (ps : List Placed) × (tokens_of ps ≡ ts) × HasPlaced 0 ps line
+HasTokens ts line = (ps : List Placed) × (tokens_of ps ≡ ts) × HasPlaced ps line
 
 -- A line without tokens is skipped.
 abbrev pub IsSkipped : List ℕ → Type 0
 IsSkipped line = HasTokens [] line
+
+-- rule 1: The line breaks a sentence on lines and tokens, so that it has none.
+abbrev pub FailsTokens : ℕ → List ℕ → Failing
+FailsTokens number text line rule = (line ≡ number) × (rule ≡ 1) × ((ts : List Token) → HasTokens ts text → ⊥)

@@ -1,3 +1,9 @@
 pub mod Runs
 pub mod LineLaws
 pub mod FollowLaws
+pub mod NumberLaws
+pub mod TokenLaws
+pub mod FoundLaws
+pub mod FrontLaws
+pub mod ReadingLaws
+pub mod StepLaws

@@ -4,7 +4,7 @@ use Rattle.rl_defs.specs.Tokens as t
 use Rattle.rl_defs.specs.Tokens.{Token}
 use Rattle.rl_text.specs.declared.lexeme.Lexeme.{Lexeme}
 use Rattle.rl_text.specs.declared.lexeme.Lexeme.TheVariants.{Word, Key, Number, Text, Mark}
-use Rattle.rl_text.specs.declared.scan.Scanned.{Scanned}
+use Rattle.rl_text.specs.declared.scan.Front.{Front}
 
 -- the token of a line that a lexeme stands for
 abbrev pub token_of : List ℕ → Lexeme → Token
@@ -20,6 +20,6 @@ GivesToken None read = read ≡ None
 GivesToken (Some lexeme) read = (line : List ℕ) → read ≡ Some (token_of line lexeme)
 
 -- A lexeme and its count of bytes are what was read, or there is none.
-abbrev pub Scans : List ℕ → Option Scanned → Option (Token × ℕ) → Type 0
+abbrev pub Scans : List ℕ → Option Front → Option (Token × ℕ) → Type 0
 Scans line None read = read ≡ None
 Scans line (Some s) read = read ≡ Some (token_of line s.lexeme, s.count)

@@ -2,3 +2,6 @@ pub mod Places
 pub mod Cuts
 pub mod Scan
 pub mod Lexemes
+pub mod TokenPlaces
+pub mod Steps
+pub mod Reading

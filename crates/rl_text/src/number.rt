@@ -15,10 +15,19 @@ pub(crate) fn number_of(digits: &[u8], radix: u32) -> Option<u64>
     }
     let mut value = 0;
     'digits: for byte in digits {
-        let digit = char::from(*byte).to_digit(radix)?;
+        let digit = digit_of(*byte, radix)?;
         value = with_digit(value, radix, digit)?;
     }
     Some(value)
+}
+
+// What a digit of the radix stands for.
+fn digit_of(byte: u8, radix: u32) -> Option<u32>
+    requires low { 2 ≤ radix }
+    requires high { radix ≤ 16 }
+    ensures { SomeIff result (digit_value byte < radix) (digit_value byte) }
+{
+    char::from(byte).to_digit(radix)
 }
 
 // The number with one digit more, where it fits.

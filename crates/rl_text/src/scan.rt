@@ -5,6 +5,7 @@ ghost use Rattle.rl_defs.specs.Tokens as bytes;
 ghost use Rattle.rl_defs.specs.Words as words;
 ghost use Rattle.rl_text.specs.Scan.{blanks, is_end, number_at, key_of, word_of, run_of, sign_of, quoted, mark_at, run_at, token_at};
 ghost use Rattle.rl_text.specs.Lexemes.{token_of, GivesToken, Scans};
+ghost use Rattle.rl_text.specs.Steps.{Steps};
 ghost use Rattle.rl_text.specs.Places.{text_of};
 
 use crate::lexeme::Lexeme;
@@ -226,45 +227,46 @@ fn quoted(rest: &[u8]) -> Option<usize>
     if after.starts_with(b"\"") { Some(count) } else { None }
 }
 
-/// A lexeme, and how many bytes it takes.
+/// A lexeme at the front of bytes, and how many of them it takes.
 #[derive(Clone, Copy, Debug)]
-pub struct Scanned {
-    pub lexeme: Lexeme,
-    pub count: usize,
+pub(crate) struct Front {
+    lexeme: Lexeme,
+    count: usize,
 }
 
 // A mark at the front.
-fn mark_at(rest: &[u8], first: u8) -> Option<Scanned>
+fn mark_at(rest: &[u8], first: u8) -> Option<Front>
     ensures { (line : List ℕ) → Scans line result (mark_at rest.now first) }
 {
     if rest.starts_with(b"->") {
-        return Some(Scanned {
+        return Some(Front {
             lexeme: Lexeme::Mark(Mark::Arrow),
             count: 2,
         });
     }
     let mark = sign_of(first)?;
-    Some(Scanned {
+    Some(Front {
         lexeme: Lexeme::Mark(mark),
         count: 1,
     })
 }
 
 // The run at the front.
-fn run_at(rest: &[u8]) -> Option<Scanned>
+fn run_at(rest: &[u8]) -> Option<Front>
     ensures { (line : List ℕ) → Scans line result (run_at rest.now) }
 {
     let count = word_len(rest);
     let (run, _) = rest.split_at(count);
     let lexeme = run_of(run)?;
-    Some(Scanned { lexeme, count })
+    Some(Front { lexeme, count })
 }
 
 // The token of a line at a place.
-pub fn scan(line: &[u8], at: usize) -> Option<Scanned>
+fn front_at(line: &[u8], at: usize) -> Option<Front>
     requires inside { at ≤ length line.now }
     requires short { length line.now ≤ 2048 }
     ensures value { Scans line.now result (token_at (drop at line.now)) }
+    ensures within { IfSome result (λ f. (0 < f.count) × (at + f.count ≤ length line.now)) }
 {
     let (_, rest) = line.split_at(at);
     let [first, behind @ ..] = rest else {
@@ -277,11 +279,51 @@ pub fn scan(line: &[u8], at: usize) -> Option<Scanned>
         return mark_at(rest, *first);
     }
     let count = quoted(behind)?;
-    Some(Scanned {
+    Some(Front {
         lexeme: Lexeme::Text {
             start: (at + 1) as u32,
             end: (at + 1 + count) as u32,
         },
         count: count + 2,
+    })
+}
+
+/// A lexeme of a line, and the places of its first byte and behind its last.
+#[derive(Clone, Copy, Debug)]
+pub struct Scanned {
+    pub lexeme: Lexeme,
+    pub start: usize,
+    pub stop: usize,
+}
+
+/// What stands at a place of a line.
+#[derive(Clone, Copy, Debug)]
+pub enum Next {
+    /// Nothing, but blanks and maybe a comment.
+    End,
+    /// Bytes that are no token.
+    Stray,
+    Found(Scanned),
+}
+
+/// What stands at a place of a line, behind blanks.
+pub fn next_token(line: &[u8], at: usize) -> Next
+    requires inside { at ≤ length line.now }
+    requires short { length line.now ≤ 2048 }
+    ensures { Steps line.now at result }
+{
+    let (_, rest) = line.split_at(at);
+    let start = at + blanks(rest);
+    let (_, body) = line.split_at(start);
+    if is_end(body) {
+        return Next::End;
+    }
+    let Some(front) = front_at(line, start) else {
+        return Next::Stray;
+    };
+    Next::Found(Scanned {
+        lexeme: front.lexeme,
+        start,
+        stop: start + front.count,
     })
 }
