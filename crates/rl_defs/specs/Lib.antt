@@ -5,3 +5,5 @@ pub mod LogValue
 pub mod Refusals
 pub mod Lines
 pub mod Tokens
+pub mod IdlForms
+pub mod IdlParts

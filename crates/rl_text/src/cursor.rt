@@ -1,5 +1,5 @@
 //! The tokens of a line that are still to be read.
-ghost use Rattle.std.specs.Prelude.{◌≡◌, ℕ, List, MatchBool, Some, None};
+ghost use Rattle.std.specs.Prelude.{◌≡◌, ℕ, List, MatchBool, Some, None, slice_range};
 ghost use Rattle.rl_text.specs.Reading.{Gives, Passes, name_at, number_at, text_at, mark_at, key_at, word_at, end_at, first_key, behind_first};
 
 use crate::lexeme::Lexeme;
@@ -69,6 +69,21 @@ impl<'a> Cursor<'a> {
             [Lexeme::Number(n), rest @ ..] => {
                 self.left = rest;
                 Ok(*n)
+            }
+            _ => Err(Stop::NoForm),
+        }
+    }
+
+    /// Takes a text: the bytes between its quotes.
+    #[tactic(auto, unfolding(crate::specs::Reading::text_at))]
+    pub fn text(&mut self) -> Result<&'a [u8], Stop>
+        ensures { Gives (λ t. t.now) result self.new (text_at self.old) }
+    {
+        match self.left {
+            [Lexeme::Text { start, end }, rest @ ..] => {
+                let inner = part(self.line, *start as usize, *end as usize);
+                self.left = rest;
+                Ok(inner)
             }
             _ => Err(Stop::NoForm),
         }
@@ -176,4 +191,13 @@ impl<'a> Cursor<'a> {
             _ => Err(Stop::NoForm),
         }
     }
+}
+
+// The bytes from a place up to another one, as far as there are such bytes.
+fn part(line: &[u8], start: usize, end: usize) -> &[u8]
+    ensures { result.now ≡ slice_range line.now start end }
+{
+    let end = end.min(line.len());
+    let start = start.min(end);
+    &line[start..end]
 }
