@@ -7,3 +7,4 @@ pub mod Lines
 pub mod Tokens
 pub mod IdlForms
 pub mod IdlParts
+pub mod Canonical

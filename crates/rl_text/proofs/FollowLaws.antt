@@ -1,10 +1,10 @@
 -- Lines one after the other.
-use Rattle.std.proofs.Common.{◌≡◌, ℕ, zero, suc, ◌+◌, ◌-◌, ◌<◌, ◌≤◌, ◌⊎◌, inl, inr, List, [], ◌∷◌, ◌++◌, length, take, drop, map, Option, Some, None, refl, sym, ap, subst, ◌∙◌, arith, append_assoc, length-append}
-use Rattle.std.specs.Prelude.{slice_get, slice_range}
-use Rattle.std.proofs.lemmas.List.{take_at, drop_at, length-take, length-drop, append-nil, drop-drop, drop_all, map-append}
+use Rattle.std.proofs.Common.{◌≡◌, ℕ, zero, suc, ◌+◌, ◌-◌, ◌≤◌, inl, inr, List, [], ◌∷◌, ◌++◌, length, take, drop, map, refl, sym, ap, ◌∙◌, arith, append_assoc}
+use Rattle.std.specs.Prelude.{slice_get}
+use Rattle.std.proofs.lemmas.List.{length-drop, append-nil, drop-drop, drop_all, map-append}
 use Rattle.rl_defs.specs.Lines.{lines_of}
 use Rattle.rl_text.specs.declared.line.Line.{Line}
-use Rattle.rl_text.specs.Places.{text_of, Ends, Follow, AreLines, AreNumbered, IsWithin}
+use Rattle.rl_text.specs.Places.{text_of, Ends, Follow, AreNumbered, IsWithin}
 use Rattle.rl_text.specs.Cuts.{IsCut}
 
 pub Follow-push : (bytes : List ℕ) (number place : ℕ) (lines : List Line) (last : ℕ) (line : Line) (next : ℕ) → Follow bytes number place lines last → line.number ≡ number + length lines → line.start ≡ last → IsWithin bytes line → Ends bytes line.«end» next → Follow bytes number place (lines ++ line ∷ []) next

@@ -1,24 +1,23 @@
 -- What is found at the front is a token.
-use Rattle.std.proofs.Common.{◌≡◌, ℕ, zero, suc, ◌+◌, ◌-◌, ◌<◌, ◌≤◌, ◌^◌, ◌⊎◌, Bool, true, false, cond, ◌&&◌, ◌||◌, not, eqb, ltb, leb, List, [], ◌∷◌, ◌++◌, length, take, drop, get_or, Option, None, Some, inl, inr, refl, sym, ap, subst, ◌∙◌, arith, append_assoc, length-append}
-use Rattle.std.specs.Prelude.{IfSome, IsTrue, codes, nat_eq, ◌==◌, option_map}
+use Rattle.std.proofs.Common.{◌≡◌, ℕ, ◌+◌, ◌<◌, ◌≤◌, Bool, true, false, cond, eqb, List, [], ◌∷◌, ◌++◌, length, take, drop, Option, None, Some, inl, inr, refl, sym, ap, subst, ◌∙◌, arith, append_assoc, length-append}
+use Rattle.std.specs.Prelude.{codes, nat_eq, option_map}
 use Rattle.std.specs.List.{list_all, prefix_len, starts_with}
 use Rattle.std.specs.Char.{is_ascii_digit}
-use Rattle.std.specs.Str.Parse.{IsNumeral, digits_value}
 use Rattle.std.proofs.lemmas.Bool.Decides.{Decides-eqb}
 use Rattle.std.proofs.lemmas.Slice.Eq.{starts_is}
-use Rattle.std.proofs.lemmas.List.{take_at, drop_at, length-take, length-drop, take-append-drop}
+use Rattle.std.proofs.lemmas.List.{take_at, length-take, length-drop, take-append-drop}
 use Rattle.std.proofs.lemmas.List.Sums.{prefix_len-le-length}
-use Rattle.std.proofs.lemmas.Bool.{cases_Bool, eqb-true}
+use Rattle.std.proofs.lemmas.Bool.{eqb-true}
 use Rattle.rl_defs.specs.declared.lexeme.Key.{Key}
 use Rattle.rl_defs.specs.declared.lexeme.Mark.{Mark}
 use Rattle.rl_defs.specs.declared.lexeme.Mark.TheVariants as m
-use Rattle.rl_defs.specs.Words.{is_word_byte, is_word, is_name}
+use Rattle.rl_defs.specs.Words.{is_word_byte, is_name}
 use Rattle.rl_defs.specs.Tokens as t
 use Rattle.rl_defs.specs.Tokens.{Token, IsToken, EndsBefore, NoWordByteFirst, IsNumber, key_text, mark_text, is_text_byte}
 use Rattle.rl_text.specs.Scan.{Found, number_of, number_at, key_of, word_of, run_of, run_at, sign_of, quoted, text_at, mark_at, token_at}
-use Rattle.rl_text.proofs.Runs.{Stops, and_true, stops_behind, all_before}
+use Rattle.rl_text.proofs.Runs.{Stops, stops_behind, all_before}
 use Rattle.rl_text.proofs.NumberLaws.{number_found}
-use Rattle.rl_text.proofs.TokenLaws.{pick, pass, not_true, key_is}
+use Rattle.rl_text.proofs.TokenLaws.{key_is}
 
 -- a token was found in so many bytes, and it ends there
 pub record IsFound (token : Token) (n : ℕ) (bytes : List ℕ) : Type 0 where

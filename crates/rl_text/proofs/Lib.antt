@@ -7,3 +7,4 @@ pub mod FoundLaws
 pub mod FrontLaws
 pub mod ReadingLaws
 pub mod StepLaws
+pub mod RenderLaws

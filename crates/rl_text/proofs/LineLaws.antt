@@ -1,13 +1,11 @@
 -- The first line of a text.
-use Rattle.std.proofs.Common.{◌≡◌, ℕ, zero, suc, ◌+◌, ◌-◌, ◌<◌, ◌≤◌, ◌⊎◌, inl, inr, Bool, true, false, cond, ◌&&◌, not, eqb, List, [], ◌∷◌, ◌++◌, length, take, drop, get_or, map, Some, refl, sym, ap, subst, ◌∙◌, arith, append_assoc, length-append, lt-ltb}
-use Rattle.std.specs.Prelude.{slice_get}
+use Rattle.std.proofs.Common.{◌≡◌, ℕ, suc, ◌+◌, ◌-◌, ◌<◌, ◌≤◌, inl, inr, Bool, true, false, cond, ◌&&◌, not, eqb, List, [], ◌∷◌, ◌++◌, length, take, drop, get_or, Some, refl, sym, ap, ◌∙◌, arith, append_assoc, length-append}
 use Rattle.std.specs.List.{list_all, prefix_len}
-use Rattle.std.proofs.lemmas.List.{take_more, take_all, take_at, drop_at, length-take, take-append-drop, append-nil, take-append-le, drop_all, length-drop}
+use Rattle.std.proofs.lemmas.List.{take_more, take_all, drop_at, length-take, take-append-drop, take-append-le, drop_all, length-drop}
 use Rattle.std.proofs.lemmas.Bool.{cases_Bool, eqb-true}
 use Rattle.std.proofs.lemmas.Bool.Decides.{nat_tests}
 use Rattle.rl_defs.specs.Lines.{lines_of, ends_line, put_first}
-use Rattle.rl_text.specs.declared.line.Line.{Line}
-use Rattle.rl_text.specs.Places.{text_of, Ends, Follow, AreNumbered, IsWithin}
+use Rattle.rl_text.specs.Places.{Ends}
 use Rattle.rl_text.specs.Cuts.{IsCut, kept}
 use Rattle.rl_text.proofs.Runs.{Stops, and_true, stops_behind, all_before}
 
@@ -115,12 +113,12 @@ kept_ends [] more = inl (refl, refl)
 kept_ends (c ∷ []) more = elim (cases_Bool (eqb c 13)) [
   | inl e ↦ rw e (inr (inl (ap (λ (x : ℕ). Some x) (eqb-true c 13 e), refl, refl)))
   | inr e ↦ rw e (inl (refl, refl))
-  ]
+]
 kept_ends (c ∷ d ∷ line) more = elim (kept_ends (d ∷ line) more) [
   | inl e ↦ inl (e.0, omega (arith, e.1))
   | inr (inl e) ↦ inr (inl (e.0, (let one : suc (kept (d ∷ line)) + 1 ≡ suc (kept (d ∷ line) + 1) = omega arith in rw one e.1), omega (arith, e.2)))
   | inr (inr e) ↦ inr (inr (omega (arith, e.0), omega (arith, e.1)))
-  ]
+]
 
 fed_parts : (rest : List ℕ) (n : ℕ) → n ≡ prefix_len not_feed rest → n < length rest → (more : List ℕ) × (rest ≡ take n rest ++ 10 ∷ more)
 fed_parts rest n is lt =

@@ -1,24 +1,23 @@
 -- Reading a line from the left, and that it has one list of tokens.
-use Rattle.std.proofs.Common.{◌≡◌, ℕ, zero, suc, ◌+◌, ◌-◌, ◌<◌, ◌≤◌, ◌⊎◌, Bool, true, false, cond, ◌&&◌, ◌||◌, not, eqb, List, [], ◌∷◌, ◌++◌, length, take, drop, map, Option, None, Some, inl, inr, refl, sym, ap, subst, ◌∙◌, arith, append_assoc, length-append}
-use Rattle.std.specs.Prelude.{codes, nat_eq, nat_le, IsTrue}
-use Rattle.std.specs.Char.{is_ascii_digit, digit_value}
-use Rattle.std.specs.List.{list_all, prefix_len, starts_with}
+use Rattle.std.proofs.Common.{◌≡◌, ℕ, ◌+◌, true, false, ◌&&◌, not, eqb, List, [], ◌∷◌, ◌++◌, length, take, drop, None, Some, inl, inr, refl, sym, ap, subst, ◌∙◌, arith, append_assoc}
+use Rattle.std.specs.Prelude.{codes, nat_eq, nat_le}
+use Rattle.std.specs.List.{list_all, starts_with}
 use Rattle.std.specs.Str.Parse.{IsNumeral}
 use Rattle.std.proofs.lemmas.Bool.{or_cases, or_right, eqb-true}
 use Rattle.std.proofs.lemmas.Bool.Decides.{nat_tests, Decides-eqb}
 use Rattle.std.proofs.lemmas.Slice.Eq.{starts_is}
-use Rattle.std.proofs.lemmas.List.{take_at, drop_at, take-append-drop, append-nil, drop-drop, length-take}
+use Rattle.std.proofs.lemmas.List.{drop_at, take-append-drop, append-nil, drop-drop, length-take}
 use Rattle.std.proofs.lemmas.List.Sums.{prefix_len-le-length}
 use Rattle.rl_defs.specs.declared.lexeme.Mark.{Mark}
 use Rattle.rl_defs.specs.declared.lexeme.Mark.TheVariants as m
-use Rattle.rl_defs.specs.Words.{is_word_byte, is_word, is_name, is_reserved, starts_word}
+use Rattle.rl_defs.specs.Words.{is_word_byte, is_word, is_reserved, starts_word}
 use Rattle.rl_defs.specs.Tokens as t
 use Rattle.rl_defs.specs.Tokens.{Token, Placed, IsToken, EndsBefore, IsComment, IsBare, BeginsWith, ArePlaced, IsLine, HasPlaced, HasTokens, tokens_of, is_blank, key_text, mark_text}
-use Rattle.rl_text.specs.Scan.{Found, blanks, is_end, token_at}
+use Rattle.rl_text.specs.Scan.{blanks, is_end, token_at}
 use Rattle.rl_text.specs.Steps.{body}
 use Rattle.rl_text.proofs.Runs.{and_true, Stops, prefix_len-front, all_before}
-use Rattle.rl_text.proofs.TokenLaws.{token_at-spelled, key_word, not_true, digit_byte}
-use Rattle.rl_text.proofs.FoundLaws.{IsFound, token_at-found, both, sized}
+use Rattle.rl_text.proofs.TokenLaws.{token_at-spelled, key_word, digit_byte}
+use Rattle.rl_text.proofs.FoundLaws.{token_at-found, both, sized}
 
 -- ---- what a token begins with
 
@@ -144,9 +143,9 @@ nil_is (x ∷ xs) e = absurd (omega (arith, e))
 
 ends : (bytes : List ℕ) → is_end bytes ≡ true → IsComment bytes
 ends bytes e = elim (or_cases (eqb (length bytes) 0) (starts_with nat_eq bytes (codes "//")) e) [
-    | inl empty ↦ inl (nil_is bytes (eqb-true (length bytes) 0 empty))
-    | inr slashes ↦ inr (drop 2 bytes, (starts_is Decides-eqb bytes (codes "//") true (sym slashes)).0 refl)
-  ]
+  | inl empty ↦ inl (nil_is bytes (eqb-true (length bytes) 0 empty))
+  | inr slashes ↦ inr (drop 2 bytes, (starts_is Decides-eqb bytes (codes "//") true (sym slashes)).0 refl)
+]
 
 pub done : (line : List ℕ) (front : List Placed) (place : ℕ) → Agrees line front place → is_end (body (drop place line)) ≡ true → ArePlaced 0 front line
 done line front place a e =
@@ -156,9 +155,10 @@ done line front place a e =
 -- what is read at a place is one token, and the rest
 same_reading : (place : ℕ) (bytes : List ℕ) (token : Token) (n : ℕ) (p : Placed) (us : List Placed) → token_at (body bytes) ≡ Some (sized n token) → Reads p us place bytes → (p ≡ placed token (place + blanks bytes) (place + blanks bytes + n)) × ArePlaced p.stop us (drop n (body bytes))
 same_reading place bytes token n p us e r =
-    let q = both token p.token n r.count (sym e ∙ r.read) in
-    (ap (λ (x : Token). placed x p.start p.stop) (sym q.0) ∙ ap (λ (x : ℕ). placed token x p.stop) r.start ∙ ap (λ (x : ℕ). placed token (place + blanks bytes) x) (r.stop ∙ ap (λ (x : ℕ). place + blanks bytes + x) (sym q.1)),
-     subst (λ (x : ℕ). ArePlaced p.stop us (drop x (body bytes))) (sym q.1) r.behind)
+    let q = both token p.token n r.count (sym e ∙ r.read) in (
+      ap (λ (x : Token). placed x p.start p.stop) (sym q.0) ∙ ap (λ (x : ℕ). placed token x p.stop) r.start ∙ ap (λ (x : ℕ). placed token (place + blanks bytes) x) (r.stop ∙ ap (λ (x : ℕ). place + blanks bytes + x) (sym q.1)),
+      subst (λ (x : ℕ). ArePlaced p.stop us (drop x (body bytes))) (sym q.1) r.behind,
+    )
 
 first_of_line : (place : ℕ) (bytes : List ℕ) (token : Token) (n : ℕ) (us : List Placed) → is_end (body bytes) ≡ false → token_at (body bytes) ≡ Some (sized n token) → ArePlaced place us bytes → (vs : List Placed) × (us ≡ placed token (place + blanks bytes) (place + blanks bytes + n) ∷ vs) × ArePlaced (place + blanks bytes + n) vs (drop n (body bytes))
 first_of_line place bytes token n [] more e h = absurd (no_comment place bytes h more)

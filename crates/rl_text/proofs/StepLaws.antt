@@ -1,21 +1,21 @@
 -- The loops that read a line token by token.
-use Rattle.std.proofs.Common.{◌≡◌, ℕ, ◌+◌, ◌-◌, ◌<◌, ◌≤◌, Bool, true, false, ◌&&◌, leb, List, [], ◌∷◌, ◌++◌, length, drop, map, Option, None, Some, inl, inr, refl, sym, ap, subst, ◌∙◌, arith}
+use Rattle.std.proofs.Common.{◌≡◌, ℕ, ◌+◌, ◌-◌, true, ◌&&◌, leb, List, [], ◌∷◌, ◌++◌, length, drop, map, inr, refl, sym, ap, subst, ◌∙◌, arith}
 use Rattle.std.specs.Prelude.{nat_le}
 use Rattle.std.specs.List.{list_all}
 use Rattle.std.proofs.lemmas.List.{map-append}
 use Rattle.std.proofs.lemmas.Bool.Decides.{nat_tests}
 use Rattle.rl_defs.specs.Refusals.{IsFirst, Nowhere}
-use Rattle.rl_defs.specs.Tokens.{Token, Placed, ArePlaced, IsLine, HasPlaced, HasTokens, FailsTokens, tokens_of, is_line_byte}
+use Rattle.rl_defs.specs.Tokens.{Token, Placed, ArePlaced, IsLine, HasPlaced, FailsTokens, tokens_of, is_line_byte}
 use Rattle.rl_text.specs.declared.scan.Scanned.{Scanned}
 use Rattle.rl_text.specs.declared.lexeme.Lexeme.{Lexeme}
 use Rattle.rl_text.specs.declared.token.Token.{Token as Spanned}
 use Rattle.rl_text.specs.declared.token.TokenKind.{TokenKind}
-use Rattle.rl_text.specs.Scan.{is_end, token_at, blanks}
+use Rattle.rl_text.specs.Scan.{is_end, blanks}
 use Rattle.rl_text.specs.Lexemes.{token_of}
 use Rattle.rl_text.specs.Steps.{body, IsNext}
 use Rattle.rl_text.specs.TokenPlaces.{kind_of, span_of}
 use Rattle.rl_text.proofs.Runs.{and_true}
-use Rattle.rl_text.proofs.ReadingLaws.{Agrees, step, stuck, done, placed}
+use Rattle.rl_text.proofs.ReadingLaws.{Agrees, step, done, placed}
 
 pub fits_line : (text : List ℕ) → (nat_le (length text) 2048 && list_all is_line_byte text) ≡ true → IsLine text
 fits_line text e =
@@ -41,7 +41,7 @@ next_step line front place s a h =
     let start : place + blanks (drop place line) ≡ s.start = sym h.begins in
     let stop : place + blanks (drop place line) + n ≡ s.stop = omega (arith, h.begins, h.some) in
     let x : Agrees line (front ++ placed token s.start (place + blanks (drop place line) + n) ∷ []) (place + blanks (drop place line) + n) =
-        subst (λ (y : ℕ). Agrees line (front ++ placed token y (place + blanks (drop place line) + n) ∷ []) (place + blanks (drop place line) + n)) start (step line front place token n a h.goes_on h.read) in
+    subst (λ (y : ℕ). Agrees line (front ++ placed token y (place + blanks (drop place line) + n) ∷ []) (place + blanks (drop place line) + n)) start (step line front place token n a h.goes_on h.read) in
     subst (λ (y : ℕ). Agrees line (front ++ placed token s.start y ∷ []) y) stop x
 
 pub line_done : (line : List ℕ) (front : List Placed) (place : ℕ) → IsLine line → Agrees line front place → is_end (body (drop place line)) ≡ true → HasPlaced front line

@@ -1,25 +1,23 @@
 -- The token at the front is the one that the definition has there.
-use Rattle.std.proofs.Common.{◌≡◌, ℕ, zero, suc, ◌+◌, ◌-◌, ◌<◌, ◌≤◌, ◌^◌, ◌⊎◌, Bool, true, false, cond, ◌&&◌, ◌||◌, not, eqb, ltb, leb, List, [], ◌∷◌, ◌++◌, length, take, drop, get_or, Option, None, Some, inl, inr, refl, sym, ap, subst, ◌∙◌, arith, append_assoc, length-append, lt-ltb, le-ltb, ltb-true}
-use Rattle.std.specs.Prelude.{IfSome, IsTrue, codes, nat_eq, ◌==◌, option_map, find}
+use Rattle.std.proofs.Common.{◌≡◌, ℕ, ◌+◌, ◌<◌, ◌≤◌, ◌^◌, Bool, true, false, cond, ◌&&◌, not, eqb, leb, List, [], ◌∷◌, ◌++◌, length, get_or, Option, None, Some, inl, inr, refl, sym, ap, ◌∙◌, arith, append_assoc, length-append}
+use Rattle.std.specs.Prelude.{codes, nat_eq, option_map, find}
 use Rattle.std.specs.Cmp.Lexicographic.{pointwise}
-use Rattle.std.specs.List.{list_all, list_any, prefix_len, starts_with}
+use Rattle.std.specs.List.{list_all, starts_with}
 use Rattle.std.specs.Char.{is_ascii_digit, digit_value}
 use Rattle.std.specs.Str.Parse.{IsNumeral, AllDigits, digits_value}
 use Rattle.std.proofs.lemmas.Bool.Decides.{nat_tests, Decides-eqb}
-use Rattle.std.proofs.lemmas.Slice.Eq.{slice_eq-Decides, starts_is}
-use Rattle.std.proofs.lemmas.List.{take_at, drop_at, length-take, take-append-drop, append-nil}
-use Rattle.std.proofs.lemmas.List.Sums.{prefix_len-le-length}
-use Rattle.std.proofs.lemmas.Bool.{cases_Bool, eqb-true}
+use Rattle.std.proofs.lemmas.Slice.Eq.{slice_eq-Decides}
+use Rattle.std.proofs.lemmas.List.{take_at, drop_at}
 use Rattle.rl_defs.specs.declared.lexeme.Key.{Key}
 use Rattle.rl_defs.specs.declared.lexeme.Key.TheVariants as k
 use Rattle.rl_defs.specs.declared.lexeme.Mark.{Mark}
 use Rattle.rl_defs.specs.declared.lexeme.Mark.TheVariants as m
-use Rattle.rl_defs.specs.Words.{is_word_byte, is_word, is_name, is_reserved, same_bytes, starts_word, reserved_words}
+use Rattle.rl_defs.specs.Words.{is_word_byte, is_word, is_name, is_reserved, same_bytes, starts_word}
 use Rattle.rl_defs.specs.Tokens as t
 use Rattle.rl_defs.specs.Tokens.{Token, IsToken, EndsBefore, NoWordByteFirst, IsNumber, key_text, mark_text, is_text_byte, is_blank}
-use Rattle.rl_text.specs.Scan.{Found, number_of, number_at, all_keys, key_of, word_of, run_of, run_at, sign_of, quoted, text_at, mark_at, token_at}
-use Rattle.rl_text.proofs.Runs.{Stops, and_true, prefix_len-front, stops_behind, all_before}
-use Rattle.rl_text.proofs.NumberLaws.{is_digit_of, number_spelled, number_found}
+use Rattle.rl_text.specs.Scan.{number_at, all_keys, key_of, word_of, run_of, run_at, quoted, text_at, mark_at, token_at}
+use Rattle.rl_text.proofs.Runs.{Stops, and_true, prefix_len-front}
+use Rattle.rl_text.proofs.NumberLaws.{number_spelled}
 
 pub pick : {A : Type 0} (b : Bool) (x y z : A) → b ≡ true → x ≡ z → cond b x y ≡ z
 pick true x y z e f = f

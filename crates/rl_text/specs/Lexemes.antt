@@ -1,5 +1,5 @@
 -- Lexemes as tokens.
-use Rattle.std.specs.Prelude.{◌≡◌, ℕ, ◌<◌, ◌≤◌, ◌+◌, List, Option, None, Some, Result, Ok, Err, slice_range}
+use Rattle.std.specs.Prelude.{◌≡◌, ℕ, List, Option, None, Some, slice_range}
 use Rattle.rl_defs.specs.Tokens as t
 use Rattle.rl_defs.specs.Tokens.{Token}
 use Rattle.rl_text.specs.declared.lexeme.Lexeme.{Lexeme}

@@ -21,10 +21,7 @@ pub enum Lexeme {
     Key(Key),
     Number(u64),
     /// A text, by the places in the line of its first byte and behind its last, without its quotes.
-    Text {
-        start: u32,
-        end: u32,
-    },
+    Text { start: u32, end: u32 },
     Mark(Mark),
 }
 

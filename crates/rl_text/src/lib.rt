@@ -5,5 +5,6 @@ pub mod cursor;
 pub mod lexeme;
 pub mod line;
 mod number;
+pub mod render;
 pub mod scan;
 pub mod token;

@@ -88,7 +88,11 @@ fn without_return(line: &[u8]) -> usize
     ensures { result ≡ kept line.now }
 {
     let count = line.len();
-    if count > 0 && line[count - 1] == b'\r' { count - 1 } else { count }
+    if count > 0 && line[count - 1] == b'\r' {
+        count - 1
+    } else {
+        count
+    }
 }
 
 // How many bytes stand before the first line feed, or in all.

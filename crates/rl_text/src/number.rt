@@ -35,5 +35,7 @@ fn with_digit(value: u64, radix: u32, digit: u32) -> Option<u64>
     ensures { MatchOption result (2 ^ 64 ≤ value * radix + digit)
         (λ n. (n ≡ value * radix + digit) × (n < 2 ^ 64)) }
 {
-    value.checked_mul(u64::from(radix))?.checked_add(u64::from(digit))
+    value
+        .checked_mul(u64::from(radix))?
+        .checked_add(u64::from(digit))
 }

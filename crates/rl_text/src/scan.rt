@@ -224,7 +224,11 @@ fn quoted(rest: &[u8]) -> Option<usize>
 {
     let count = text_len(rest);
     let (_, after) = rest.split_at(count);
-    if after.starts_with(b"\"") { Some(count) } else { None }
+    if after.starts_with(b"\"") {
+        Some(count)
+    } else {
+        None
+    }
 }
 
 /// A lexeme at the front of bytes, and how many of them it takes.

@@ -90,3 +90,41 @@ pub fn refused(line: u32, rule: u8) -> LoadFault
 {
     LoadFault::Refused(Refusal { line, rule })
 }
+
+#[cfg(test)]
+mod tests {
+    use super::*;
+    use crate::line::lines;
+    use std::test::Fail;
+
+    fn kinds(alloc: Global, text: &[u8]) -> Result<Option<usize>, Fail> {
+        let line = Line {
+            number: 1,
+            start: 0,
+            end: text.len().min(4096) as u32,
+        };
+        match tokens(alloc, text, &line) {
+            Ok(all) => Ok(Some(all.len())),
+            Err(LoadFault::Refused(_)) => Ok(None),
+            Err(LoadFault::Memory) => Err(Fail::from("memory")),
+        }
+    }
+
+    #[test]
+    fn lines_and_tokens(rt: HostRuntime) -> Result<(), Fail> {
+        let text = b"a 1\r\n\r\n  // b\nc";
+        let all = lines(rt.alloc(), text).map_err(|_| "memory")?;
+        assert_eq!(rt; all.len(), 4);
+        assert_eq!(rt;
+            all[3],
+            Line {
+                number: 4,
+                start: 14,
+                end: 15
+            }
+        );
+        assert_eq!(rt; kinds(rt.alloc(), b"a->0x1F \"x\" // y")?, Some(4));
+        assert_eq!(rt; kinds(rt.alloc(), b"18446744073709551616")?, None);
+        Ok(())
+    }
+}

@@ -1,8 +1,7 @@
-use Rattle.std.proofs.Common.{◌≡◌, ◌∙◌, sym, ap, arith, ℕ, List, refl, map}
-use Rattle.rl_defs.specs.Tokens.{Placed, HasPlaced}
+use Rattle.std.proofs.Common.{◌∙◌, sym, ℕ, List}
+use Rattle.rl_defs.specs.Tokens.{HasPlaced}
 use Rattle.rl_defs.proofs.FirstRefusal.{refuses}
 use Rattle.rl_text.specs.declared.scan.Scanned.{Scanned}
-use Rattle.rl_text.specs.Lexemes.{token_of}
 use Rattle.rl_text.proofs.ReadingLaws.{stuck}
 use Rattle.rl_text.proofs.StepLaws.{fits_line, line_fails, line_passes, next_step, line_done, lexemes_more}
 use Rattle.rl_text.proofs.lexeme.lexemes.Goals as goal

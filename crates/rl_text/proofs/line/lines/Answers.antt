@@ -1,6 +1,4 @@
-use Rattle.std.proofs.Common.{◌≡◌, ◌+◌, ◌-◌, ◌≤◌, ◌++◌, map, drop, List, [], ◌∷◌, ℕ, length, refl, ap, sym, ◌∙◌, arith, length-append}
-use Rattle.rl_defs.specs.Lines.{lines_of}
-use Rattle.rl_text.specs.Places.{text_of, Follow, Ends}
+use Rattle.std.proofs.Common.{◌≡◌, ◌+◌, ◌++◌, drop, List, [], ◌∷◌, ℕ, refl, arith, length-append}
 use Rattle.rl_text.specs.Cuts.{IsCut}
 use Rattle.rl_text.proofs.FollowLaws.{Follow-push, Follow-numbered, Ends-behind, texts_more, line_at}
 use Rattle.rl_text.specs.declared.line.Line.{Line}

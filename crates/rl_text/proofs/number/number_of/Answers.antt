@@ -1,6 +1,5 @@
-use Rattle.std.proofs.Common.{◌≡◌, ℕ, ◌≤◌, ◌<◌, length, get_or, sym, ap, ◌∙◌, arith}
+use Rattle.std.proofs.Common.{ℕ, ◌≤◌, ◌<◌, length, sym, ◌∙◌, arith}
 use Rattle.std.proofs.lemmas.Bool.{eqb-true}
-use Rattle.std.specs.Char.{digit_value}
 use Rattle.rl_text.proofs.NumberLaws.{number_empty, number_stray, number_big, number_all, digits_more, value_more, not_empty}
 use Rattle.rl_text.proofs.number.number_of.Goals as goal
 

@@ -1,7 +1,4 @@
-use Rattle.std.proofs.Common.{◌≡◌, ◌∙◌, sym, ap, arith, List, ℕ, drop, Option}
-use Rattle.rl_text.specs.Scan.{token_at}
-use Rattle.rl_text.specs.Lexemes.{Scans}
-use Rattle.rl_text.specs.declared.scan.Front.{Front}
+use Rattle.std.proofs.Common.{◌∙◌, sym}
 use Rattle.rl_text.proofs.TokenLaws.{token_run, token_mark}
 use Rattle.rl_text.proofs.FrontLaws.{front_within}
 use Rattle.rl_text.proofs.scan.front_at.Goals as goal

@@ -1,4 +1,4 @@
-use Rattle.std.proofs.Common.{◌≡◌, ◌∙◌, sym, ap, arith, ℕ, List, refl, ◌+◌}
+use Rattle.std.proofs.Common.{◌∙◌, sym, ℕ, List, refl, ◌+◌}
 use Rattle.rl_defs.specs.Tokens.{Placed, HasPlaced}
 use Rattle.rl_defs.proofs.FirstRefusal.{refuses}
 use Rattle.rl_text.specs.declared.scan.Scanned.{Scanned}

@@ -1,0 +1,5 @@
+//! The lines of the interface part, read and written.
+#![tactic(auto)]
+
+
+mod types;
