@@ -1,3 +1,4 @@
+pub mod Whole
 pub mod Wrapped
 pub mod Types
 pub mod Lines

@@ -11,16 +11,8 @@ use Rattle.rl_defs.specs.declared.idl.IdlLine.{IdlLine}
 use Rattle.rl_defs.specs.declared.idl.IdlLine.TheVariants.{Struct, Field, Trait, Idempotent, Method, Close}
 use Rattle.rl_defs.specs.Tokens.{Token}
 use Rattle.rl_text.specs.Reading.{Reader, ◌>>=◌, either, name_at, mark_at, key_at, word_at, end_at, first_key, behind_first}
+use Rattle.rl_text.specs.Many.{all_at}
 use Rattle.idl_syntax.specs.Types.{type_at}
-
--- parts with a comma before each, as many as there are up to a count
-unfoldable pub many_at : {A : Type 0} → Reader A → ℕ → Reader (List A)
-many_at item zero ts = Some ([], ts)
-many_at item (suc n) ts = either (mark_at m.Comma ts) (λ behind. item behind >>= λ a. many_at item n a.1 >>= λ more. Some (a.0 ∷ more.0, more.1)) (Some ([], ts))
-
--- all parts with a comma before each
-abbrev pub all_at : {A : Type 0} → Reader A → Reader (List A)
-all_at item ts = many_at item (length ts) ts
 
 -- TYPE: one that holds no other is 0 deep, and at most 8 deep they may be
 abbrev pub whole_type_at : Reader TypeText

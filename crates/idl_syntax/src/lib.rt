@@ -1,5 +1,6 @@
 //! The lines of the interface part, read and written.
 #![tactic(auto)]
 
-
+mod form;
+mod list;
 mod types;

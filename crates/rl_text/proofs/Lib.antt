@@ -8,3 +8,5 @@ pub mod FrontLaws
 pub mod ReadingLaws
 pub mod StepLaws
 pub mod RenderLaws
+pub mod PartLaws
+pub mod ManyLaws

@@ -5,3 +5,4 @@ pub mod Lexemes
 pub mod TokenPlaces
 pub mod Steps
 pub mod Reading
+pub mod Many

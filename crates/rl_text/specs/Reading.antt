@@ -35,50 +35,54 @@ abbrev pub either : {A B : Type 0} → Option A → (A → Option B) → Option 
 either None f other = other
 either (Some x) f other = f x
 
+-- a number of its own for each
+abbrev pub key_place : Key → ℕ
+key_place k.Pub = 0
+key_place k.Struct = 1
+key_place k.Trait = 2
+key_place k.Fn = 3
+key_place k.SelfWord = 4
+key_place k.RRef = 5
+key_place k.RpcResult = 6
+key_place k.Dyn = 7
+key_place k.Mut = 8
+key_place k.Const = 9
+key_place k.Box = 10
+key_place k.Vec = 11
+key_place k.String = 12
+key_place k.Bool = 13
+key_place k.U8 = 14
+key_place k.U16 = 15
+key_place k.U32 = 16
+key_place k.U64 = 17
+key_place k.Num = 18
+
 abbrev pub same_key : Key → Key → Bool
-same_key a b = key_place a == key_place b where
-  key_place : Key → ℕ
-  key_place k.Pub = 0
-  key_place k.Struct = 1
-  key_place k.Trait = 2
-  key_place k.Fn = 3
-  key_place k.SelfWord = 4
-  key_place k.RRef = 5
-  key_place k.RpcResult = 6
-  key_place k.Dyn = 7
-  key_place k.Mut = 8
-  key_place k.Const = 9
-  key_place k.Box = 10
-  key_place k.Vec = 11
-  key_place k.String = 12
-  key_place k.Bool = 13
-  key_place k.U8 = 14
-  key_place k.U16 = 15
-  key_place k.U32 = 16
-  key_place k.U64 = 17
-  key_place k.Num = 18
+same_key a b = key_place a == key_place b
+
+-- a number of its own for each
+abbrev pub mark_place : Mark → ℕ
+mark_place m.OpenBrace = 0
+mark_place m.CloseBrace = 1
+mark_place m.OpenParen = 2
+mark_place m.CloseParen = 3
+mark_place m.OpenBracket = 4
+mark_place m.CloseBracket = 5
+mark_place m.Less = 6
+mark_place m.Greater = 7
+mark_place m.Colon = 8
+mark_place m.Semicolon = 9
+mark_place m.Comma = 10
+mark_place m.Equals = 11
+mark_place m.Dot = 12
+mark_place m.Ampersand = 13
+mark_place m.Star = 14
+mark_place m.At = 15
+mark_place m.Hash = 16
+mark_place m.Arrow = 17
 
 abbrev pub same_mark : Mark → Mark → Bool
-same_mark a b = mark_place a == mark_place b where
-  mark_place : Mark → ℕ
-  mark_place m.OpenBrace = 0
-  mark_place m.CloseBrace = 1
-  mark_place m.OpenParen = 2
-  mark_place m.CloseParen = 3
-  mark_place m.OpenBracket = 4
-  mark_place m.CloseBracket = 5
-  mark_place m.Less = 6
-  mark_place m.Greater = 7
-  mark_place m.Colon = 8
-  mark_place m.Semicolon = 9
-  mark_place m.Comma = 10
-  mark_place m.Equals = 11
-  mark_place m.Dot = 12
-  mark_place m.Ampersand = 13
-  mark_place m.Star = 14
-  mark_place m.At = 15
-  mark_place m.Hash = 16
-  mark_place m.Arrow = 17
+same_mark a b = mark_place a == mark_place b
 
 -- a word that isn't reserved
 unfoldable pub name_at : Reader (List ℕ)
