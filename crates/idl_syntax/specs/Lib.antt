@@ -2,3 +2,4 @@ pub mod Whole
 pub mod Wrapped
 pub mod Types
 pub mod Lines
+pub mod Forms

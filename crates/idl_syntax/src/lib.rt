@@ -3,4 +3,5 @@
 
 mod form;
 mod list;
+pub mod read;
 mod types;

@@ -128,3 +128,6 @@ all_takes spell Valid item takes ts all rest e = many_takes spell Valid item tak
 
 pub all_again : {A : Type 0} (spell : A → List Token) (Valid : A → Type 0) (item : Reader A) → Again spell Valid item → (all : List A) (rest : List Token) → AllValid Valid all → mark_at m.Comma rest ≡ None → all_at item (spell_more spell all ++ rest) ≡ Some (part all rest)
 all_again spell Valid item again all rest valid none = many_again spell Valid item again all rest _ (omega arith) valid none
+
+pub falls : {A : Type 0} (item : Reader A) (shorter : Shortens item) (left behind rest : List Token) (a : A) → mark_at m.Comma left ≡ Some behind → item behind ≡ Some (part a rest) → length rest < length left
+falls item shorter left behind rest a comma read = omega (arith, comma_shortens left behind comma, shorter behind a rest read)
