@@ -101,7 +101,7 @@ result_takes ts result rest e = elim (either_some (mark_at m.Arrow ts) behind_ar
 
 -- ---- lines
 
-abbrev choice : Bool → Bool → Choice
+abbrev pub choice : Bool → Bool → Choice
 choice public comma = record { public = public; comma = comma }
 
 -- a line whose front may have `pub`

@@ -3,3 +3,4 @@ pub mod Wrapped
 pub mod Types
 pub mod Lines
 pub mod Forms
+pub mod Parts

@@ -3,5 +3,6 @@
 
 mod form;
 mod list;
+pub mod part;
 pub mod read;
 mod types;

@@ -31,7 +31,7 @@ pub fn read_idl_line(alloc: Global, bytes: &[u8], line: &Line) -> Result<IdlLine
 }
 
 // The form of a line, if it has tokens. The buffer is for its lexemes.
-fn read_form(alloc: Global, buffer: &mut Vec<Lexeme>, bytes: &[u8], line: &Line) -> Result<Option<IdlLine>, LoadFault>
+pub(crate) fn read_form(alloc: Global, buffer: &mut Vec<Lexeme>, bytes: &[u8], line: &Line) -> Result<Option<IdlLine>, LoadFault>
     requires { IsWithin bytes.now line.now }
     ensures { Reads line.now.number (text_of bytes.now line.now) result }
 {
@@ -39,10 +39,11 @@ fn read_form(alloc: Global, buffer: &mut Vec<Lexeme>, bytes: &[u8], line: &Line)
         Ok(()) => {}
         Err(fault) => return Err(fault),
     }
-    if buffer.is_empty() {
+    let all = buffer.as_slice();
+    if all.is_empty() {
         return Ok(None);
     }
-    let mut left = Cursor::new(line.text(bytes), buffer);
+    let mut left = Cursor::new(line.text(bytes), all);
     match whole_form(alloc, &mut left) {
         Ok(form) => Ok(Some(form)),
         Err(Stop::NoForm) => Err(refused(line.number, 1)),
