@@ -56,7 +56,7 @@ parts_takes : (out : List TypeText) (ts behind rest : List Token) → ts ≡ Sig
 parts_takes out ts behind rest is e = elim (either_some (mark_at m.CloseParen behind) (λ a. Some (part [] a)) (types_at behind) (part out rest) e) [
   | inl x ↦ moved spell_out AreTypes ts [] out x.x rest x.gives (is ∙ ap (λ (t : List Token). Sign m.OpenParen ∷ t) (mark_takes m.CloseParen behind x.x x.is), tt)
   | inr x ↦ types_takes out ts behind rest is x.1
-  ]
+]
 
 one_takes : (out : List TypeText) (ts rest : List Token) → one_at ts ≡ Some (part out rest) → (ts ≡ spell_out out ++ rest) × AreTypes out
 one_takes out ts rest e =
@@ -69,7 +69,7 @@ unfolding out_at
 out_takes ts out rest e = elim (either_some (mark_at m.OpenParen ts) parts_at (one_at ts) (part out rest) e) [
   | inl x ↦ parts_takes out ts x.x rest (mark_takes m.OpenParen ts x.x x.is) x.gives
   | inr x ↦ one_takes out ts rest x.1
-  ]
+]
 
 rpc_takes : (result : ResultText) (ts behind rest : List Token) → ts ≡ Sign m.Arrow ∷ Reserved k.RpcResult ∷ behind → rpc_at behind ≡ Some (part result rest) → (ts ≡ spell_result result ++ rest) × IsResult result
 rpc_takes result ts behind rest is e =
@@ -78,7 +78,7 @@ rpc_takes result ts behind rest is e =
     let p = out_takes x.0 y.0.0 y.0.1 y.1 in
     let z = mark_step m.Greater y.0.1 (λ b. Some (part (Rpc y.0.0) b)) (part result rest) y.2 in
     moved spell_result IsResult ts (Rpc y.0.0) result z.0 rest z.2
-        (is ∙ ap (λ (t : List Token). Sign m.Arrow ∷ Reserved k.RpcResult ∷ t) (x.1 ∙ ap (λ (t : List Token). Sign m.Less ∷ t) (p.0 ∙ ap (λ (t : List Token). spell_out y.0.0 ++ t) z.1 ∙ sym (append_assoc (spell_out y.0.0) (Sign m.Greater ∷ []) z.0))), p.1)
+    (is ∙ ap (λ (t : List Token). Sign m.Arrow ∷ Reserved k.RpcResult ∷ t) (x.1 ∙ ap (λ (t : List Token). Sign m.Less ∷ t) (p.0 ∙ ap (λ (t : List Token). spell_out y.0.0 ++ t) z.1 ∙ sym (append_assoc (spell_out y.0.0) (Sign m.Greater ∷ []) z.0))), p.1)
 
 plain_out_takes : (result : ResultText) (ts behind rest : List Token) → ts ≡ Sign m.Arrow ∷ behind → plain_out_at behind ≡ Some (part result rest) → (ts ≡ spell_result result ++ rest) × IsResult result
 plain_out_takes result ts behind rest is e =
@@ -90,14 +90,14 @@ arrow_takes : (result : ResultText) (ts behind rest : List Token) → ts ≡ Sig
 arrow_takes result ts behind rest is e = elim (either_some (key_at k.RpcResult behind) rpc_at (plain_out_at behind) (part result rest) e) [
   | inl x ↦ rpc_takes result ts x.x rest (is ∙ ap (λ (t : List Token). Sign m.Arrow ∷ t) (key_takes k.RpcResult behind x.x x.is)) x.gives
   | inr x ↦ plain_out_takes result ts behind rest is x.1
-  ]
+]
 
 result_takes : Takes spell_result IsResult result_at
 unfolding result_at
 result_takes ts result rest e = elim (either_some (mark_at m.Arrow ts) behind_arrow_at (Some (part Missing ts)) (part result rest) e) [
   | inl x ↦ arrow_takes result ts x.x rest (mark_takes m.Arrow ts x.x x.is) x.gives
   | inr x ↦ moved spell_result IsResult ts Missing result ts rest x.1 (refl, tt)
-  ]
+]
 
 -- ---- lines
 
@@ -163,7 +163,7 @@ field_takes ts rest line e =
     let z = bind_some (whole_type_at y.0) (λ ty. Some (part (Field x.0.0 ty.0) (behind_comma ty.1))) (part line rest) y.2 in
     let p = whole_takes y.0 z.0.0 z.0.1 z.1 in
     field_gave ts rest line x.0.0 z.0.0 x.0.1 y.0 z.0.1 x.1 y.1 p.0 p.1 z.2
-    where
+  where
     field_gave : (ts rest : List Token) (line : IdlLine) (name : List ℕ) (ty : TypeText) (a b c : List Token) → ts ≡ Name name ∷ a → a ≡ Sign m.Colon ∷ b → b ≡ spell_type ty ++ c → IsType ty → Some (part (Field name ty) (behind_comma c)) ≡ Some (part line rest) → OpenGave ts line rest
     field_gave ts rest line name ty a b c one two three valid e =
         let d = comma_takes c in
@@ -182,8 +182,8 @@ open_takes ts rest line e = elim (either_some (key_at k.Struct ts) struct_at (ei
   | inr a ↦ elim (either_some (key_at k.Trait ts) trait_at (field_at ts) (part line rest) a.1) [
     | inl x ↦ trait_takes ts x.x rest line (key_takes k.Trait ts x.x x.is) x.gives
     | inr b ↦ field_takes ts rest line b.1
-    ]
   ]
+]
 
 attribute_takes : (ts behind rest : List Token) (line : IdlLine) → ts ≡ Sign m.Hash ∷ behind → attribute_at behind ≡ Some (part line rest) → Gave ts line rest
 unfolding attribute_at
@@ -247,10 +247,10 @@ form_takes ts rest line e = elim (either_some (key_at k.Pub ts) open_at (either 
       | inr c ↦ elim (either_some (mark_at m.CloseBrace ts) close_at (open_at ts) (part line rest) c.1) [
         | inl x ↦ gave_moved ts Close line x.x rest x.gives (record { choice = choice true true; spelled = mark_takes m.CloseBrace ts x.x x.is; valid = tt })
         | inr d ↦ bare_gave ts rest line (open_takes ts rest line d.1)
-        ]
       ]
     ]
   ]
+]
 
 pub line_takes : (ts : List Token) (line : IdlLine) → line_at ts ≡ Some line → (c : Choice) × (ts ≡ spell_line c line) × IsForm line
 unfolding line_at

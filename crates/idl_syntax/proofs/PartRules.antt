@@ -129,7 +129,7 @@ more_before F number before here n r lt f = elim (cases_order n number) [
   | inl same ↦ here r (subst (λ (m : ℕ). F m r) same f)
   | inr (inl less) ↦ before n r less f
   | inr (inr more) ↦ absurd (omega arith)
-  ]
+]
 
 pub first_at : (F : Failing) (number rule : ℕ) → F number rule → Before F number → ((r : ℕ) → F number r → rule ≤ r) → IsFirst F number rule
 first_at F number rule fails before least = record {
@@ -150,7 +150,7 @@ next_skips first i texts text block next old new here so s =
     let fine : (r : ℕ) → F (first + i) r → ⊥ = λ r. λ (f : F (first + i) r). elim f [
       | inl a ↦ skip_no_form first i texts text here s.skipped a.1
       | inr b ↦ elim b.1 [ inl c ↦ skip_misplaced first i texts text here s.skipped c | inr c ↦ open_later first i texts lt c ]
-      ] in
+    ] in
     let place : first + i + 1 ≡ first + (i + 1) = omega arith in
     record {
       stand = rw (one_more texts i text here, s.same_lines) (skip_last first (take i texts) old text so.stand s.skipped);
@@ -165,7 +165,7 @@ next_stands first i number texts text block next old new here number-is so s =
     let fine : (r : ℕ) → F (first + i) r → ⊥ = λ r. λ (f : F (first + i) r). elim f [
       | inl a ↦ no_form_fails first i texts text s.form here s.is a.1
       | inr b ↦ elim b.1 [ inl c ↦ allowed_misplaced first i texts text s.form old (block_of block) (block_of next) here s.is so.stand so.open_block s.allowed c | inr c ↦ open_later first i texts lt c ]
-      ] in
+    ] in
     let place : first + i + 1 ≡ first + (i + 1) = omega arith in
     let count : length (take i texts) ≡ i = omega (arith, length-take i texts) in
     record {
@@ -211,7 +211,7 @@ left_open first i texts lines block e so inside =
     (λ r. λ (f : FailsIdl first texts (first + i) r). elim f [
       | inl a ↦ absurd (omega (arith, e, a.1.line.place, read_within texts a.1.behind a.1.text a.1.line.here))
       | inr c ↦ omega (arith, c.0)
-      ])
+    ])
 
 pub all_closed : (first i : ℕ) (texts : List (List ℕ)) (lines : List (Numbered IdlLine)) (block : Block) → i ≡ length texts → SoFar first texts i lines block → block_of block ≡ parts.Outside → Nowhere (FailsIdl first texts) × StandFor first texts lines
 all_closed first i texts lines block e so closed =
@@ -223,11 +223,11 @@ all_closed first i texts lines block e so closed =
         | inr b ↦ elim b.1 [
           | inl c ↦ omega (arith, e, le, c.line.place, read_within texts c.behind c.text c.line.here)
           | inr c ↦ open_closed c
-          ]
         ]
-      ] in
+      ]
+    ] in
     (none, all)
-    where
+  where
     open_closed : {n : ℕ} → IsLeftOpen first texts n → ⊥
     open_closed c =
         let same : c.lines ≡ lines = one_standing first texts c.lines lines c.stand (whole_part first i texts lines block e so) in

@@ -30,9 +30,10 @@ param_takes ts p rest e =
     let y = mark_step m.Colon x.0.1 (λ a. whole_type_at a >>= λ ty. Some (part (param x.0.0 ty.0) ty.1)) (part p rest) x.2 in
     let z = bind_some (whole_type_at y.0) (λ ty. Some (part (param x.0.0 ty.0) ty.1)) (part p rest) y.2 in
     let w = whole_takes y.0 z.0.0 z.0.1 z.1 in
-    let q = both_parts (part (param x.0.0 z.0.0) z.0.1) (part p rest) z.2 in
-    (x.1 ∙ ap (λ (t : List Token). Name x.0.0 ∷ t) (y.1 ∙ ap (λ (t : List Token). Sign m.Colon ∷ t) w.0) ∙ ap (λ (a : Param). spell_param a ++ z.0.1) q.0 ∙ ap (λ (t : List Token). spell_param p ++ t) q.1,
-     subst (λ (a : Param). IsParam a) q.0 w.1)
+    let q = both_parts (part (param x.0.0 z.0.0) z.0.1) (part p rest) z.2 in (
+      x.1 ∙ ap (λ (t : List Token). Name x.0.0 ∷ t) (y.1 ∙ ap (λ (t : List Token). Sign m.Colon ∷ t) w.0) ∙ ap (λ (a : Param). spell_param a ++ z.0.1) q.0 ∙ ap (λ (t : List Token). spell_param p ++ t) q.1,
+      subst (λ (a : Param). IsParam a) q.0 w.1,
+    )
 
 pub param_again : Again spell_param IsParam param_at
 unfolding param_at

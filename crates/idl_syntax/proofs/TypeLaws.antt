@@ -113,9 +113,10 @@ wrap_takes : (room : ℕ) (w : Wrap) (inner : Reader TypeText) (ts behind rest :
 wrap_takes room w inner ts behind rest ty spelled is may takes parts e =
     let x = bind_some (inner behind) (λ t. Some (part (wrapped w t.0) t.1)) (part ty rest) e in
     let p = takes behind x.0.0 x.0.1 x.1 in
-    moved (suc room) ts (wrapped w x.0.0) ty x.0.1 rest x.2
-        (parts ∙ ap (λ (t : List Token). front w ++ t) p.0 ∙ sym (append_assoc (front w) (spell_type x.0.0) x.0.1) ∙ ap (λ (t : List Token). t ++ x.0.1) (sym (spelled x.0.0)),
-         in_wrap room w x.0.0 is (may x.0.0 x.0.1 x.1) p.1)
+    moved (suc room) ts (wrapped w x.0.0) ty x.0.1 rest x.2 (
+      parts ∙ ap (λ (t : List Token). front w ++ t) p.0 ∙ sym (append_assoc (front w) (spell_type x.0.0) x.0.1) ∙ ap (λ (t : List Token). t ++ x.0.1) (sym (spelled x.0.0)),
+      in_wrap room w x.0.0 is (may x.0.0 x.0.1 x.1) p.1,
+    )
 
 count_case : (b : Bool) (n : ℕ) (t : TypeText) (c : List Token) (ty : TypeText) (rest : List Token) → (nat_le 1 n && nat_le n 65535) ≡ b → cond b (Some (part (wrapped (wrap.Array n) t) c)) None ≡ Some (part ty rest) → IsWrap (wrap.Array n) × (Some (part (wrapped (wrap.Array n) t) c) ≡ Some (part ty rest))
 count_case true n t c ty rest is e =
@@ -135,9 +136,10 @@ array_takes room inner ts behind rest ty takes is e =
     let c = count_case _ z.0.0 x.0.0 w.0 ty rest refl w.2 in
     let tail : List Token = Sign m.Semicolon ∷ Number z.0.0 ∷ Sign m.CloseBracket ∷ [] in
     let last : x.0.1 ≡ tail ++ w.0 = cc (y.1, z.1, w.1) in
-    moved (suc room) ts (wrapped (wrap.Array z.0.0) x.0.0) ty w.0 rest c.1
-        (is ∙ ap (λ (t : List Token). Sign m.OpenBracket ∷ t) (p.0 ∙ ap (λ (t : List Token). spell_type x.0.0 ++ t) last ∙ sym (append_assoc (spell_type x.0.0) tail w.0)),
-         in_wrap room (wrap.Array z.0.0) x.0.0 c.0 tt p.1)
+    moved (suc room) ts (wrapped (wrap.Array z.0.0) x.0.0) ty w.0 rest c.1 (
+      is ∙ ap (λ (t : List Token). Sign m.OpenBracket ∷ t) (p.0 ∙ ap (λ (t : List Token). spell_type x.0.0 ++ t) last ∙ sym (append_assoc (spell_type x.0.0) tail w.0)),
+      in_wrap room (wrap.Array z.0.0) x.0.0 c.0 tt p.1,
+    )
 
 boxed_takes : (room : ℕ) (w : Wrap) (key : Key) (inner : Reader TypeText) (ts behind rest : List Token) (ty : TypeText) → ((t : TypeText) → spell_type (wrapped w t) ≡ Reserved key ∷ Sign m.Less ∷ spell_type t ++ (Sign m.Greater ∷ [])) → IsWrap w → ((t : TypeText) → MayHold w t.wraps t.base) → Takes spell_type (IsTypeIn room) inner → ts ≡ Reserved key ∷ behind → boxed_at w inner behind ≡ Some (part ty rest) → Gave (suc room) ts ty rest
 boxed_takes room w key inner ts behind rest ty spelled is may takes parts e =
@@ -145,9 +147,10 @@ boxed_takes room w key inner ts behind rest ty spelled is may takes parts e =
     let y = bind_some (inner x.0) (λ t. mark_at m.Greater t.1 >>= λ b. Some (part (wrapped w t.0) b)) (part ty rest) x.2 in
     let p = takes x.0 y.0.0 y.0.1 y.1 in
     let z = mark_step m.Greater y.0.1 (λ b. Some (part (wrapped w y.0.0) b)) (part ty rest) y.2 in
-    moved (suc room) ts (wrapped w y.0.0) ty z.0 rest z.2
-        (parts ∙ ap (λ (t : List Token). Reserved key ∷ t) (x.1 ∙ ap (λ (t : List Token). Sign m.Less ∷ t) (p.0 ∙ ap (λ (t : List Token). spell_type y.0.0 ++ t) z.1 ∙ sym (append_assoc (spell_type y.0.0) (Sign m.Greater ∷ []) z.0))) ∙ ap (λ (t : List Token). t ++ z.0) (sym (spelled y.0.0)),
-         in_wrap room w y.0.0 is (may y.0.0) p.1)
+    moved (suc room) ts (wrapped w y.0.0) ty z.0 rest z.2 (
+      parts ∙ ap (λ (t : List Token). Reserved key ∷ t) (x.1 ∙ ap (λ (t : List Token). Sign m.Less ∷ t) (p.0 ∙ ap (λ (t : List Token). spell_type y.0.0 ++ t) z.1 ∙ sym (append_assoc (spell_type y.0.0) (Sign m.Greater ∷ []) z.0))) ∙ ap (λ (t : List Token). t ++ z.0) (sym (spelled y.0.0)),
+      in_wrap room w y.0.0 is (may y.0.0) p.1,
+    )
 
 -- the type behind a `&` doesn't begin with `RRef`
 no_rref : (t : TypeText) (ts rest : List Token) → (first_key ts ≡ Some k.RRef → ⊥) → ts ≡ spell_type t ++ rest → MayHold wrap.Ref t.wraps t.base
@@ -226,11 +229,11 @@ step_takes room inner takes ts ty rest e = elim (either_some (mark_at m.OpenBrac
         | inr d ↦ elim (either_some (key_at k.Vec ts) (boxed_at wrap.Vec inner) _ (part ty rest) d.1) [
           | inl x ↦ boxed_takes room wrap.Vec k.Vec inner ts x.x rest ty (λ t. refl) tt (λ t. tt) takes (key_takes k.Vec ts x.x x.is) x.gives
           | inr f ↦ plain_takes room ts rest ty f.1
-          ]
         ]
       ]
     ]
   ]
+]
 
 pub type_takes : (room : ℕ) → Takes spell_type (IsTypeIn room) (type_at room)
 unfolding type_at

@@ -118,3 +118,84 @@ pub fn read_idl(alloc: Global, bytes: &[u8], lines: &[Line]) -> Result<Idl, Load
         _ => Err(refused(number, 2)),
     }
 }
+
+#[cfg(test)]
+mod tests {
+    use super::*;
+    use crate::read::read_idl_line;
+    use rl_text::line::lines;
+    use std::test::Fail;
+
+    fn is_form(alloc: Global, text: &[u8]) -> Result<bool, Fail> {
+        let line = Line {
+            number: 1,
+            start: 0,
+            end: text.len().min(4096) as u32,
+        };
+        match read_idl_line(alloc, text, &line) {
+            Ok(_) => Ok(true),
+            Err(LoadFault::Refused(_)) => Ok(false),
+            Err(LoadFault::Memory) => Err(Fail::from("memory")),
+        }
+    }
+
+    // The count of forms, or the line and the rule that refuse.
+    fn part(alloc: Global, text: &[u8]) -> Result<(usize, u32, u8), Fail> {
+        if text.len() > 4096 {
+            return Err(Fail::from("long"));
+        }
+        let all = lines(alloc, text).map_err(|_| "memory")?;
+        match read_idl(alloc, text, &all) {
+            Ok(idl) => Ok((idl.lines.len(), 0, 0)),
+            Err(LoadFault::Refused(at)) => Ok((0, at.line, at.rule)),
+            Err(LoadFault::Memory) => Err(Fail::from("memory")),
+        }
+    }
+
+    #[test]
+    fn forms(rt: HostRuntime) -> Result<(), Fail> {
+        let read: [&[u8]; 9] = [
+            b"struct S {",
+            b"pub struct S { // open",
+            b"a: [[u8; 0x10]; 2]",
+            b"pub a: &mut Box<RRef<S>>,",
+            b"#[idempotent]",
+            b"fn f(&self);",
+            b"fn f(&self, a: u64, b: &RRef<S>, c: &dyn T) -> RpcResult<(u64, RRef<S>)>;",
+            b"fn f(&self) -> ();",
+            b"}",
+        ];
+        let refused: [&[u8]; 7] = [
+            b"",
+            b"struct u8 {",
+            b"a: [u8; 0],",
+            b"a: &&RRef<S,",
+            b"fn f(&self,);",
+            b"fn f(&self) -> (u8);",
+            b"fn f(&self) -> ;",
+        ];
+        for text in read {
+            assert!(rt; is_form(rt.alloc(), text)?);
+        }
+        for text in refused {
+            assert!(rt; !is_form(rt.alloc(), text)?);
+        }
+        Ok(())
+    }
+
+    #[test]
+    fn order(rt: HostRuntime) -> Result<(), Fail> {
+        let alloc = rt.alloc();
+        assert_eq!(rt;
+            part(
+                alloc,
+                b"pub struct P {\n    pub a: u64,\n}\n\npub trait T {\n}\n"
+            )?,
+            (5, 0, 0)
+        );
+        assert_eq!(rt; part(alloc, b"trait T {\n#[idempotent]\n}\n")?, (0, 3, 2));
+        assert_eq!(rt; part(alloc, b"trait T {\n")?, (0, 2, 2));
+        assert_eq!(rt; part(alloc, b"a: u8,\nb: ,\n")?, (0, 1, 2));
+        Ok(())
+    }
+}

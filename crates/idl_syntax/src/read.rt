@@ -31,7 +31,12 @@ pub fn read_idl_line(alloc: Global, bytes: &[u8], line: &Line) -> Result<IdlLine
 }
 
 // The form of a line, if it has tokens. The buffer is for its lexemes.
-pub(crate) fn read_form(alloc: Global, buffer: &mut Vec<Lexeme>, bytes: &[u8], line: &Line) -> Result<Option<IdlLine>, LoadFault>
+pub(crate) fn read_form(
+    alloc: Global,
+    buffer: &mut Vec<Lexeme>,
+    bytes: &[u8],
+    line: &Line,
+) -> Result<Option<IdlLine>, LoadFault>
     requires { IsWithin bytes.now line.now }
     ensures { Reads line.now.number (text_of bytes.now line.now) result }
 {

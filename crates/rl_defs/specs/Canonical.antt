@@ -1,7 +1,6 @@
 -- The canonical spelling of tokens.
-use Rattle.std.specs.Prelude.{ℕ, ◌*◌, Bool, true, false, ◌&&◌, ◌||◌, not, List, [], ◌∷◌, ◌++◌, replicate, if◌then◌else◌}
+use Rattle.std.specs.Prelude.{ℕ, ◌*◌, Bool, true, false, ◌&&◌, not, List, [], ◌∷◌, ◌++◌, replicate, if◌then◌else◌}
 use Rattle.std.specs.Fmt.{decimal}
-use Rattle.rl_defs.specs.declared.lexeme.Mark.{Mark}
 use Rattle.rl_defs.specs.declared.lexeme.Mark.TheVariants as m
 use Rattle.rl_defs.specs.Tokens.{Token, Name, Reserved, Number, Text, Sign, key_text, mark_text}
 

@@ -1,5 +1,5 @@
 -- The line forms of the interface part, by their spellings.
-use Rattle.std.specs.Prelude.{◌≡◌, ◌≢◌, ℕ, suc, ◌≤◌, ◌<◌, Bool, true, false, List, [], ◌∷◌, ◌++◌, map, length, codes, if◌then◌else◌}
+use Rattle.std.specs.Prelude.{ℕ, ◌≤◌, Bool, List, [], ◌∷◌, ◌++◌, length, codes, if◌then◌else◌}
 use Rattle.rl_defs.specs.declared.tables.Width.{Width}
 use Rattle.rl_defs.specs.declared.tables.Width.TheVariants as width
 use Rattle.rl_defs.specs.declared.idl.Wrap.{Wrap}
@@ -14,7 +14,6 @@ use Rattle.rl_defs.specs.declared.idl.IdlLine.{IdlLine}
 use Rattle.rl_defs.specs.declared.idl.IdlLine.TheVariants.{Struct, Field, Trait, Idempotent, Method, Close}
 use Rattle.rl_defs.specs.declared.lexeme.Key.{Key}
 use Rattle.rl_defs.specs.declared.lexeme.Key.TheVariants as k
-use Rattle.rl_defs.specs.declared.lexeme.Mark.{Mark}
 use Rattle.rl_defs.specs.declared.lexeme.Mark.TheVariants as m
 use Rattle.rl_defs.specs.Tokens.{Token, Name, Reserved, Number, Sign, HasTokens}
 

@@ -8,3 +8,4 @@ pub mod Tokens
 pub mod IdlForms
 pub mod IdlParts
 pub mod Canonical
+pub mod IdlCanonical

@@ -1,5 +1,5 @@
 -- Parts with a comma before each, as a loop reads them.
-use Rattle.std.proofs.Common.{◌≡◌, ℕ, zero, suc, ◌+◌, ◌-◌, ◌<◌, ◌≤◌, ◌⊎◌, inl, inr, Bool, true, false, List, [], ◌∷◌, ◌++◌, length, Option, None, Some, Result, Ok, Err, MatchBool, refl, sym, ap, subst, ◌∙◌, append_assoc, append-nil, length-append, arith}
+use Rattle.std.proofs.Common.{◌≡◌, ℕ, zero, suc, ◌<◌, ◌≤◌, ◌⊎◌, inl, inr, Bool, true, false, List, [], ◌∷◌, ◌++◌, length, Option, None, Some, Err, MatchBool, refl, sym, ap, subst, ◌∙◌, append_assoc, append-nil, length-append, arith}
 use Rattle.rl_defs.specs.declared.lexeme.Mark.TheVariants as m
 use Rattle.rl_defs.specs.Tokens.{Token, Sign}
 use Rattle.rl_defs.specs.IdlForms.{spell_more}
@@ -99,16 +99,17 @@ many_takes {A} spell Valid item takes zero ts all rest e =
     (q.1 ∙ ap (λ (x : List A). spell_more spell x ++ rest) q.0, subst (λ (x : List A). AllValid Valid x) q.0 tt)
 many_takes {A} spell Valid item takes (suc n) ts all rest e =
     elim (comma_cases (mark_at m.Comma ts) (λ behind. item behind >>= λ a. put_front a.0 (many_at item n a.1)) (Some (part [] ts)) (part all rest) e) [
-    | inl c ↦
-        let b = bind_some (item c.0) (λ a. put_front a.0 (many_at item n a.1)) (part all rest) c.2 in
-        let p = takes c.0 b.0.0 b.0.1 b.1 in
-        let f = front_some b.0.0 (many_at item n b.0.1) all rest b.2 in
-        let more = many_takes spell Valid item takes n b.0.1 f.0 rest f.1 in
-        (mark_takes m.Comma ts c.0 c.1 ∙ ap (λ (t : List Token). Sign m.Comma ∷ t) (p.0 ∙ ap (λ (t : List Token). spell b.0.0 ++ t) more.0 ∙ sym (append_assoc (spell b.0.0) (spell_more spell f.0) rest)) ∙ ap (λ (x : List A). spell_more spell x ++ rest) f.2,
-         subst (λ (x : List A). AllValid Valid x) f.2 (p.1, more.1))
-    | inr c ↦
-        let q = both_parts (part [] ts) (part all rest) c.1 in
-        (q.1 ∙ ap (λ (x : List A). spell_more spell x ++ rest) q.0, subst (λ (x : List A). AllValid Valid x) q.0 tt)
+      | inl c ↦
+          let b = bind_some (item c.0) (λ a. put_front a.0 (many_at item n a.1)) (part all rest) c.2 in
+          let p = takes c.0 b.0.0 b.0.1 b.1 in
+          let f = front_some b.0.0 (many_at item n b.0.1) all rest b.2 in
+          let more = many_takes spell Valid item takes n b.0.1 f.0 rest f.1 in (
+            mark_takes m.Comma ts c.0 c.1 ∙ ap (λ (t : List Token). Sign m.Comma ∷ t) (p.0 ∙ ap (λ (t : List Token). spell b.0.0 ++ t) more.0 ∙ sym (append_assoc (spell b.0.0) (spell_more spell f.0) rest)) ∙ ap (λ (x : List A). spell_more spell x ++ rest) f.2,
+            subst (λ (x : List A). AllValid Valid x) f.2 (p.1, more.1),
+          )
+      | inr c ↦
+          let q = both_parts (part [] ts) (part all rest) c.1 in
+          (q.1 ∙ ap (λ (x : List A). spell_more spell x ++ rest) q.0, subst (λ (x : List A). AllValid Valid x) q.0 tt)
     ]
 
 pub many_again : {A : Type 0} (spell : A → List Token) (Valid : A → Type 0) (item : Reader A) → Again spell Valid item → (all : List A) (rest : List Token) (n : ℕ) → length (spell_more spell all ++ rest) ≤ n → AllValid Valid all → mark_at m.Comma rest ≡ None → many_at item n (spell_more spell all ++ rest) ≡ Some (part all rest)

@@ -1,5 +1,5 @@
 -- Parts that are read are spelled so, and parts that are spelled so are read.
-use Rattle.std.proofs.Common.{◌≡◌, ℕ, suc, ◌+◌, ◌<◌, ◌≤◌, ◌⊎◌, inl, inr, Bool, true, false, cond, eqb, List, [], ◌∷◌, ◌++◌, length, Option, None, Some, refl, sym, ap, subst, ◌∙◌, arith, append_assoc}
+use Rattle.std.proofs.Common.{◌≡◌, ℕ, ◌⊎◌, inl, inr, Bool, true, false, cond, eqb, List, [], ◌∷◌, ◌++◌, Option, None, Some, refl, sym, ap, ◌∙◌}
 use Rattle.std.specs.Cmp.Lexicographic.{pointwise}
 use Rattle.std.specs.Prelude.{nat_eq}
 use Rattle.std.proofs.lemmas.Bool.{eqb-true}
@@ -10,7 +10,7 @@ use Rattle.rl_defs.specs.declared.lexeme.Key.TheVariants as k
 use Rattle.rl_defs.specs.declared.lexeme.Mark.{Mark}
 use Rattle.rl_defs.specs.declared.lexeme.Mark.TheVariants as m
 use Rattle.rl_defs.specs.Tokens.{Token, Name, Reserved, Number, Text, Sign}
-use Rattle.rl_text.specs.Reading.{Reader, ◌>>=◌, either, key_place, mark_place, same_key, same_mark, name_at, number_at, text_at, mark_at, key_at, word_at, end_at}
+use Rattle.rl_text.specs.Reading.{Reader, ◌>>=◌, either, key_place, mark_place, same_key, same_mark, name_at, number_at, mark_at, key_at, word_at, end_at}
 
 abbrev pub Part : Type 0 → Type 0
 Part A = A × List Token

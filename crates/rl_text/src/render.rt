@@ -1,9 +1,10 @@
 //! The canonical spelling of a line's tokens.
-ghost use Rattle.std.specs.Prelude.{◌≡◌, ℕ, ◌+◌, ◌*◌, ◌<◌, List, [], ◌∷◌, ◌++◌, OnOk, OnErr, replicate, map, slice_range};
+ghost use Rattle.std.specs.Prelude.{◌≡◌, ℕ, ◌+◌, ◌*◌, ◌<◌, List, [], ◌∷◌, ◌++◌, OnOk, IsTrue, OnErr, replicate, map, slice_range};
 ghost use Rattle.std.specs.Fmt.{decimal};
 ghost use Rattle.rl_defs.specs.Canonical.{token_text, opens, closes, is_word_token, is_parenthesis, has_gap, gap, render_behind, render, render_line};
 ghost use Rattle.rl_defs.specs.Tokens as t;
 ghost use Rattle.rl_text.specs.Lexemes.{token_of};
+ghost use Rattle.rl_defs.specs.Words.{is_name};
 
 use crate::cursor::part;
 use crate::lexeme::Lexeme;
@@ -55,6 +56,17 @@ impl<'a> Spelling<'a> {
         ensures { OnOk result (self.new ≡ self.old ++ t.Name name ∷ []) }
     {
         push(&mut self.lexemes, Lexeme::Word(name))
+    }
+
+    /// Puts a word that isn't reserved last, by its bytes.
+    pub fn word(&mut self, word: &[u8]) -> Result<(), Memory>
+        requires { IsTrue (is_name word.now) }
+        ensures { OnOk result (self.new ≡ self.old ++ t.Name word.now ∷ []) }
+    {
+        match Name::read(word) {
+            Some(name) => self.name(name),
+            None => unreachable!(),
+        }
     }
 
     /// Puts a reserved word last.
