@@ -240,3 +240,8 @@ not_outside b.Outside h e = h refl
 not_outside b.InStruct h e = cc
 not_outside b.InTrait h e = cc
 not_outside b.BeforeMethod h e = cc
+
+-- the lines of a text from its first on
+pub first_one : (bytes : List ℕ) (lines : List Line) → AreNumbered bytes 1 lines → first_number lines ≡ 1
+first_one bytes [] h = refl
+first_one bytes (line ∷ lines) h = h.0

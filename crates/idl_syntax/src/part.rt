@@ -144,7 +144,9 @@ mod tests {
         if text.len() > 4096 {
             return Err(Fail::from("long"));
         }
-        let all = lines(alloc, text).map_err(|_| "memory")?;
+        let Ok(all) = lines(alloc, text) else {
+            return Err(Fail::from("memory"));
+        };
         match read_idl(alloc, text, &all) {
             Ok(idl) => Ok((idl.lines.len(), 0, 0)),
             Err(LoadFault::Refused(at)) => Ok((0, at.line, at.rule)),

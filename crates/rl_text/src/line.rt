@@ -38,6 +38,7 @@ pub fn lines(alloc: Global, bytes: &[u8]) -> Result<Vec<Line>, Memory>
     ensures texts { IfOk result (λ v. map (text_of bytes.now) v.items ≡ lines_of bytes.now) }
     ensures places { IfOk result (λ v. AreLines bytes.now v.items) }
     ensures numbered { IfOk result (λ v. AreNumbered bytes.now 1 v.items) }
+    ensures count { IfOk result (λ v. length v.items ≤ length bytes.now) }
 {
     let mut all = Vec::new(alloc);
     let mut start = 0;
