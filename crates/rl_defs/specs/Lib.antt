@@ -14,3 +14,9 @@ pub mod Run
 pub mod Texts
 pub mod Small
 pub mod Worked
+pub mod Lines
+pub mod Tokens
+pub mod IdlForms
+pub mod IdlParts
+pub mod Canonical
+pub mod IdlCanonical

@@ -13,6 +13,7 @@ pub mod entry;
 pub mod frame;
 pub mod idl;
 pub mod laws;
+pub mod lexeme;
 pub mod list;
 pub mod load;
 pub mod log;

@@ -1,0 +1,12 @@
+pub mod Runs
+pub mod LineLaws
+pub mod FollowLaws
+pub mod NumberLaws
+pub mod TokenLaws
+pub mod FoundLaws
+pub mod FrontLaws
+pub mod ReadingLaws
+pub mod StepLaws
+pub mod RenderLaws
+pub mod PartLaws
+pub mod ManyLaws

@@ -1,0 +1,10 @@
+//! Lines and tokens of a text, and what the readers of line forms stand on: lexemes, a cursor over them, and the writing of tokens.
+#![tactic(auto)]
+
+pub mod cursor;
+pub mod lexeme;
+pub mod line;
+mod number;
+pub mod render;
+pub mod scan;
+pub mod token;
