@@ -3,3 +3,9 @@ pub mod Padded
 pub mod NameBack
 pub mod LogValue
 pub mod Refusals
+pub mod Interfaces
+pub mod Flattening
+pub mod Holding
+pub mod TypeRules
+pub mod NameRules
+pub mod MethodRules
