@@ -1,2 +1,5 @@
 pub mod Names
 pub mod FirstRefusal
+pub mod Places
+pub mod FlatteningLaws
+pub mod HoldingLaws
