@@ -1,5 +1,6 @@
 -- The structs and traits that the lines of an interface part give, in the order of the text.
-use Rattle.std.specs.Prelude.{ℕ, Bool, true, false, List, [], ◌∷◌, ◌++◌, Option, Some, None, MatchOption, slice_get, unwrap_or, position, nat_eq}
+use Rattle.std.specs.Prelude.{ℕ, suc, Bool, true, false, List, [], ◌∷◌, ◌++◌, Option, Some, None, if◌then◌else◌, slice_get, unwrap_or, nat_eq}
+use Rattle.std.specs.Option.{option_map, option_to_list}
 use Rattle.std.specs.Cmp.Lexicographic.{pointwise}
 use Rattle.rl_defs.specs.declared.bundle.Numbered.{Numbered}
 use Rattle.rl_defs.specs.declared.idl.IdlLine.{IdlLine}
@@ -104,25 +105,32 @@ types_in (form.Field name ty) = ty ∷ []
 types_in (form.Method name params result) = param_types params ++ result_types result
 types_in _ = []
 
-abbrev pub struct_name_before : IdlLine → List (List ℕ) → List (List ℕ)
-struct_name_before (form.Struct name) more = name ∷ more
-struct_name_before _ more = more
+-- the name that a line declares for a struct
+abbrev pub struct_name : IdlLine → Option (List ℕ)
+struct_name (form.Struct name) = Some name
+struct_name _ = None
 
+-- the name that a line declares for a trait
+abbrev pub trait_name : IdlLine → Option (List ℕ)
+trait_name (form.Trait name) = Some name
+trait_name _ = None
+
+abbrev pub names_by : (IdlLine → Option (List ℕ)) → Lines → List (List ℕ)
+names_by name_of [] = []
+names_by name_of (x ∷ xs) = option_to_list (name_of x.form) ++ names_by name_of xs
+
+-- the names of the structs, in the order of the text
 abbrev pub struct_names : Lines → List (List ℕ)
-struct_names [] = []
-struct_names (x ∷ xs) = struct_name_before x.form (struct_names xs)
+struct_names lines = names_by struct_name lines
 
-abbrev pub trait_name_before : IdlLine → List (List ℕ) → List (List ℕ)
-trait_name_before (form.Trait name) more = name ∷ more
-trait_name_before _ more = more
-
+-- the names of the traits, in the order of the text
 abbrev pub trait_names : Lines → List (List ℕ)
-trait_names [] = []
-trait_names (x ∷ xs) = trait_name_before x.form (trait_names xs)
+trait_names lines = names_by trait_name lines
 
 -- the place of a name among names, if it is there
 abbrev pub place_of : List ℕ → List (List ℕ) → Option ℕ
-place_of name names = position (pointwise nat_eq name) names
+place_of name [] = None
+place_of name (x ∷ xs) = if pointwise nat_eq x name then Some 0 else option_map (λ k. suc k) (place_of name xs)
 
 -- the number of the struct of this name (0 where nothing declares it, which rule 4 refuses)
 abbrev pub struct_number : Lines → List ℕ → ℕ

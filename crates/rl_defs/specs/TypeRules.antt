@@ -14,7 +14,7 @@ use Rattle.rl_defs.specs.declared.tables.Kind.{Kind}
 use Rattle.rl_defs.specs.declared.tables.Kind.TheVariants as kind
 use Rattle.rl_defs.specs.declared.tables.StructRow.{StructRow}
 use Rattle.rl_defs.specs.Refusals.{Failing}
-use Rattle.rl_defs.specs.Interfaces.{Lines, StructText, structs_of, types_of, types_at, param_types, result_types}
+use Rattle.rl_defs.specs.Interfaces.{Lines, StructText, structs_of, types_of, types_at, result_types}
 use Rattle.rl_defs.specs.Flattening.{is_refused, Flattens}
 use Rattle.rl_defs.specs.Holding.{IsEndless, HoldsRRef}
 
@@ -38,7 +38,7 @@ is_bad_value ty = is_refused ty || (list_any is_array ty.wraps && is_lent ty.bas
 
 abbrev pub has_bad_type : IdlLine → Bool
 has_bad_type (form.Field name ty) = is_bad_field ty
-has_bad_type (form.Method name params result) = list_any is_bad_value (param_types params) || list_any is_bad_value (result_types result)
+has_bad_type (form.Method name params result) = list_any (λ p. is_bad_value p.ty) params || list_any is_bad_value (result_types result)
 has_bad_type _ = false
 
 -- the line of this number has this form

@@ -1,0 +1,6 @@
+//! Which types may cross a domain boundary, and what they flatten to (RedLeaf, section 3.1: exchangeable types).
+#![tactic(auto)]
+
+pub mod cells;
+pub mod part;
+pub mod types;
