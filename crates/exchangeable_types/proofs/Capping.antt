@@ -64,3 +64,13 @@ cells_fields lines limit types ty s inner cells more held flat puts h = record {
 
 pub no_cells : (lines : Lines) (limit : ℕ) (list : List Kind) → list ≡ [] → CellsOf lines limit [] (Few list)
 no_cells lines limit list e = record { kinds = []; flat = Ends refl refl; capped = (e, omega arith) }
+
+-- a type with no kind and no struct puts nothing behind
+pub nothing_more : (lines : Lines) (limit n : ℕ) (ty : TypeText) (before : List Kind) (cells : Cells) → kind_held lines ty ≡ None → IsCapped limit before cells → IsCapped limit (before ++ copies n (option_to_list (kind_held lines ty))) cells
+nothing_more lines limit n ty before cells none h =
+    let same : before ++ copies n (option_to_list (kind_held lines ty)) ≡ before = ap (λ (o : Option Kind). before ++ copies n (option_to_list o)) none ∙ ap (λ (xs : List Kind). before ++ xs) (copies-nil n) ∙ append-nil before in
+    subst (λ (xs : List Kind). IsCapped limit xs cells) (sym same) h
+
+-- a type with a kind puts copies of it behind
+pub kind_more : (lines : Lines) (limit n : ℕ) (ty : TypeText) (k : Kind) (before : List Kind) (more : Cells) → kind_held lines ty ≡ Some k → IsCapped limit (before ++ copies n (k ∷ [])) more → IsCapped limit (before ++ copies n (option_to_list (kind_held lines ty))) more
+kind_more lines limit n ty k before more some h = subst (λ (o : Option Kind). IsCapped limit (before ++ copies n (option_to_list o)) more) (sym some) h

@@ -1,3 +1,6 @@
 pub mod Naming
 pub mod Counting
 pub mod Capping
+pub mod Walks
+pub mod Stack
+pub mod Starts

@@ -1,2 +1,4 @@
 pub mod Numbering
 pub mod Capped
+pub mod Walk
+pub mod Steps

@@ -4,3 +4,4 @@
 pub mod cells;
 pub mod part;
 pub mod types;
+pub mod walk;
