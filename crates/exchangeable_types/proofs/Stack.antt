@@ -1,7 +1,8 @@
 -- What a walk knows, step by step.
-use Rattle.std.proofs.Common.{◌≡◌, ◌≢◌, ℕ, zero, suc, ◌+◌, ◌*◌, ◌-◌, ◌<◌, ◌≤◌, List, [], ◌∷◌, ◌++◌, length, Option, Some, None, ◌⊎◌, inl, inr, refl, sym, ap, subst, ◌∙◌, arith, length-append}
-use Rattle.std.specs.Prelude.{slice_get, slice_set}
+use Rattle.std.proofs.Common.{◌≡◌, ◌≢◌, ℕ, Bool, true, false, zero, suc, ◌+◌, ◌*◌, ◌-◌, ◌<◌, ◌≤◌, List, [], ◌∷◌, ◌++◌, length, Option, Some, None, ◌⊎◌, inl, inr, refl, sym, ap, subst, ◌∙◌, arith, length-append}
+use Rattle.std.specs.Prelude.{slice_get, slice_set, Result, Ok, Err, OnOk}
 use Rattle.std.proofs.lemmas.List.{length-set}
+use Rattle.std.proofs.lemmas.Bool.{cases_lt}
 use Rattle.rl_defs.proofs.Places.{get_front, get_seam, get_within, get_last, get_set_same, get_set_other, get_set}
 use Rattle.rl_defs.proofs.HoldingLaws.{reaches_more, reaches_field, endless_by_field}
 use Rattle.rl_defs.specs.Interfaces.{Lines, types_at, struct_names}
@@ -13,7 +14,7 @@ use Rattle.exchangeable_types.specs.declared.walk.Visit.{Visit}
 use Rattle.exchangeable_types.specs.Capped.{CellsOf}
 use Rattle.exchangeable_types.specs.declared.cells.Cells.TheVariants.{Few}
 use Rattle.rl_defs.specs.declared.tables.Kind.{Kind}
-use Rattle.exchangeable_types.specs.Walk.{KnowsCells, IsVisit, Walking, Entered, StartsAt}
+use Rattle.exchangeable_types.specs.Walk.{KnowsCells, IsVisit, Walking, Entered, StartsAt, StaysVisited, WaitsFor, unseen, fresh, is_new, Stepped, Visited, Walked, WalkedTo}
 use Rattle.exchangeable_types.proofs.Starts.{types_at_start}
 use Rattle.exchangeable_types.proofs.Capping.{no_cells}
 
@@ -135,15 +136,6 @@ endless_step lines states stack v t (Open i) w field e old unended =
 pub found_endless : (lines : Lines) (states : List State) (stack : List Visit) (v : Visit) (t : ℕ) (x : State) → Walking lines states (stack ++ v ∷ []) → HasField lines v.number t → slice_get states t ≡ Some x → (x ≡ New → ⊥) → ((cells : Cells) → x ≡ Ended cells → ⊥) → IsEndless lines v.number
 found_endless lines states stack v t x w field e old unended = endless_step lines states stack v t x w field e old unended
 
--- how many structs are new
-abbrev pub unseen : State → ℕ
-unseen New = 1
-unseen _ = 0
-
-abbrev pub fresh : List State → ℕ
-fresh [] = 0
-fresh (x ∷ xs) = unseen x + fresh xs
-
 pub fresh_set : (states : List State) (s : ℕ) (x y : State) → slice_get states s ≡ Some x → fresh (slice_set states s y) + unseen x ≡ fresh states + unseen y
 fresh_set [] s x y e = absurd cc
 fresh_set (z ∷ zs) zero x y e = let same : z ≡ x = cc in omega (arith, ap unseen same)
@@ -162,4 +154,98 @@ entered_more lines states new stack higher g w fresh visit below is more = recor
   walking = subst (λ (xs : List State). Walking lines xs higher) (sym is) (subst (λ (vs : List Visit). Walking lines (slice_set states g.number (Open (length stack))) vs) (sym more) (entered lines states stack g w fresh visit below));
   states = is;
   more = omega (arith, ap length more, length-append stack (g ∷ []));
+}
+
+pub ok_then : {T E : Type 0} (r : Result T E) (P Q : Type 0) → OnOk r P → (P → Q) → OnOk r Q
+ok_then (Ok x) P Q h f = f h
+ok_then (Err e) P Q h f = h
+
+visited_set : (states : List State) (s : ℕ) (y : State) → (y ≡ New → ⊥) → StaysVisited states (slice_set states s y)
+visited_set states s y old n e = elim (get_set states s n y New e) [ inl a ↦ absurd (old (sym a.1)) | inr b ↦ b.1 ]
+
+-- a step that decides the struct on top
+pub stepped : (lines : Lines) (states new : List State) (stack : List Visit) (v : Visit) (y : State) → Walking lines states (stack ++ v ∷ []) → ((cells : Cells) → y ≡ Ended cells → CellsOf lines 512 (types_at lines v.number) cells) → (y ≡ Endless → IsEndless lines v.number) → ((i : ℕ) → y ≡ Open i → ⊥) → (y ≡ New → ⊥) → unseen y ≡ 0 → new ≡ slice_set states v.number y → Stepped lines states new stack stack
+stepped lines states new stack v y w known endless closed old none is =
+    let set = decided lines states stack v y w known endless closed in
+    let falls : 2 * fresh (slice_set states v.number y) + length stack < 2 * fresh states + (length stack + 1) = omega (arith, fresh_set states v.number (Open (length stack)) y (top_state lines states stack v w), none) in
+    subst (λ (xs : List State). Stepped lines states xs stack stack) (sym is) (record { walking = set; visited = visited_set states v.number y old; falls = falls })
+
+-- a step that enters a new struct
+pub stepped_in : (lines : Lines) (states new : List State) (stack middle higher : List Visit) (v : Visit) (t : ℕ) → slice_get states t ≡ Some New → middle ≡ stack ++ v ∷ [] → Entered lines states new middle higher t → Stepped lines states new stack higher
+stepped_in lines states new stack middle higher v t fresh_t is e = record {
+  walking = e.walking;
+  visited = λ s h. visited_set states t (Open (length middle)) (λ same. cc) s (subst (λ (xs : List State). slice_get xs s ≡ Some New) e.states h);
+  falls = omega (arith, e.more, ap length is, length-append stack (v ∷ []), ap fresh e.states, fresh_set states t New (Open (length middle)) fresh_t);
+}
+
+pub nothing_open : (lines : Lines) (states : List State) → Walking lines states [] → (s i : ℕ) → slice_get states s ≡ Some (Open i) → ⊥
+nothing_open lines states w s i e = let o = w.opened s i e in let h = o.1 in cc
+
+pub all_new : (lines : Lines) (states : List State) → length states ≡ length (struct_names lines) → ((s : ℕ) (x : State) → slice_get states s ≡ Some x → x ≡ New) → Walking lines states []
+all_new lines states count new = record {
+  count = count;
+  knows = λ s cells e. let h = new s (Ended cells) e in absurd cc;
+  endless = λ s e. let h = new s Endless e in absurd cc;
+  opened = λ s i e. let h = new s (Open i) e in absurd cc;
+  visits = λ i v e. absurd cc;
+  trail = λ i j v u lt a b. absurd cc;
+}
+
+pub is_new_true : (x : State) → is_new x ≡ true → x ≡ New
+is_new_true New e = refl
+is_new_true (Open i) e = absurd cc
+is_new_true Endless e = absurd cc
+is_new_true (Ended cells) e = absurd cc
+
+pub is_new_false : (x : State) → is_new x ≡ false → x ≡ New → ⊥
+is_new_false New e h = absurd cc
+is_new_false (Open i) e h = cc
+is_new_false Endless e h = cc
+is_new_false (Ended cells) e h = cc
+
+-- the struct that the top waits for is open or endless
+pub stepped_endless : (lines : Lines) (states new : List State) (stack : List Visit) (v : Visit) (t : ℕ) (x : State) → Walking lines states (stack ++ v ∷ []) → WaitsFor lines states v.number t → slice_get states t ≡ Some x → is_new x ≡ false → new ≡ slice_set states v.number Endless → Stepped lines states new stack stack
+stepped_endless lines states new stack v t x w waits read old is =
+    stepped lines states new stack v Endless w (λ cells e. absurd cc) (λ e. found_endless lines states stack v t x w waits.field read (is_new_false x old) (λ cells h. waits.unended cells (read ∙ ap (λ (y : State). Some y) h))) (λ i e. cc) (λ e. cc) refl is
+
+-- the struct on top has ended
+pub stepped_whole : (lines : Lines) (states new : List State) (stack : List Visit) (v : Visit) (number : ℕ) (cells : Cells) → Walking lines states (stack ++ v ∷ []) → number ≡ v.number → CellsOf lines 512 (types_at lines v.number) cells → new ≡ slice_set states number (Ended cells) → Stepped lines states new stack stack
+stepped_whole lines states new stack v number cells w same known is =
+    stepped lines states new stack v (Ended cells) w (λ other e. let h : cells ≡ other = cc in subst (λ (x : Cells). CellsOf lines 512 (types_at lines v.number) x) h known) (λ e. absurd cc) (λ i e. cc) (λ e. cc) refl (is ∙ ap (λ (n : ℕ). slice_set states n (Ended cells)) same)
+
+pub top_within : (lines : Lines) (states : List State) (stack : List Visit) (v : Visit) → Walking lines states (stack ++ v ∷ []) → v.number < length states
+top_within lines states stack v w = get_within states v.number (Open (length stack)) (top_state lines states stack v w)
+
+pub walked_none : (lines : Lines) (states : List State) → length states ≡ length (struct_names lines) → ((s : ℕ) (x : State) → slice_get states s ≡ Some x → x ≡ New) → WalkedTo lines states 0
+walked_none lines states count new = record { walking = all_new lines states count new; visited = λ s lt e. omega arith }
+
+below_cases : (s n : ℕ) → s < n + 1 → (s < n) ⊎ (s ≡ n)
+below_cases s n lt = elim (cases_lt s n) [ inl a ↦ inl a | inr b ↦ inr (omega arith) ]
+
+-- a struct that was new is visited
+pub walked_more : (lines : Lines) (old new : List State) (number : ℕ) → WalkedTo lines old number → Visited lines old new number → WalkedTo lines new (number + 1)
+walked_more lines old new number w v = record {
+  walking = v.walking;
+  visited = λ s lt e. elim (below_cases s number lt) [
+    | inl a ↦ w.visited s a (v.visited s e)
+    | inr b ↦ v.here (subst (λ (n : ℕ). slice_get new n ≡ Some New) b e)
+  ];
+}
+
+-- a struct that was visited before
+pub walked_old : (lines : Lines) (states : List State) (number : ℕ) (x : State) → WalkedTo lines states number → slice_get states number ≡ Some x → is_new x ≡ false → WalkedTo lines states (number + 1)
+walked_old lines states number x w read old = record {
+  walking = w.walking;
+  visited = λ s lt e. elim (below_cases s number lt) [
+    | inl a ↦ w.visited s a e
+    | inr b ↦ is_new_false x old (same_state x (sym read ∙ subst (λ (n : ℕ). slice_get states n ≡ Some New) b e))
+  ];
+} where
+  same_state : (x : State) → Some x ≡ Some New → x ≡ New
+  same_state x e = cc
+
+pub walked_all : (lines : Lines) (states : List State) (number : ℕ) → length (struct_names lines) ≤ number → WalkedTo lines states number → Walked lines states
+walked_all lines states number le w = record {
+  walking = w.walking;
+  visited = λ s e. w.visited s (omega (arith, w.walking.count, get_within states s New e)) e;
 }

@@ -71,3 +71,18 @@ types_at_start lines number place h = ap field_types h.text
 -- what is read of the list of starts
 pub starts_read : (lines : Lines) (starts : List ℕ) (number d : ℕ) → starts ≡ starts_from 0 lines → number < length starts → StartsAt lines number (get_or starts number d)
 starts_read lines starts number d e lt = starts_at lines number (get_or starts number d) (subst (λ (xs : List ℕ). slice_get xs number ≡ Some (get_or starts number d)) e (slice_get-get_or starts number d lt))
+
+names_few : (lines : Lines) → length (names_by struct_name lines) ≤ length lines
+names_few [] = omega arith
+names_few (x ∷ xs) = few x.form (names_by struct_name xs) (names_few xs) where
+  few : (line : IdlLine) (ns : List (List ℕ)) → length ns ≤ length xs → length (option_to_list (struct_name line) ++ ns) ≤ suc (length xs)
+  few (form.Struct name) ns e = omega (arith, e)
+  few (form.Field name ty) ns e = omega (arith, e)
+  few (form.Trait name) ns e = omega (arith, e)
+  few form.Idempotent ns e = omega (arith, e)
+  few (form.Method name params result) ns e = omega (arith, e)
+  few form.Close ns e = omega (arith, e)
+
+-- there are at most as many structs as lines
+pub structs_few : (lines : Lines) → length (struct_names lines) ≤ length lines
+structs_few lines = names_few lines

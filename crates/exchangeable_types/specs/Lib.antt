@@ -2,3 +2,4 @@ pub mod Numbering
 pub mod Capped
 pub mod Walk
 pub mod Steps
+pub mod Search

@@ -1,5 +1,5 @@
 -- What a walk through the structs of a part knows.
-use Rattle.std.specs.Prelude.{◌≡◌, ◌≢◌, ℕ, ◌+◌, ◌<◌, List, [], ◌∷◌, ◌++◌, Some, slice_get, slice_set, length, drop}
+use Rattle.std.specs.Prelude.{◌≡◌, ◌≢◌, ℕ, Bool, true, false, ◌+◌, ◌*◌, ◌<◌, List, [], ◌∷◌, ◌++◌, Some, slice_get, slice_set, length, drop}
 use Rattle.rl_defs.specs.declared.idl.TypeText.{TypeText}
 use Rattle.rl_defs.specs.declared.idl.IdlLine.TheVariants as form
 use Rattle.rl_defs.specs.Interfaces.{Lines, structs_of, fields_of, types_of, types_at, struct_names}
@@ -52,3 +52,38 @@ pub record StartsAt (lines : Lines) (number place : ℕ) : Type 0 where
   pub name : List ℕ
   pub here : slice_get lines place ≡ Some (record { line = line; form = form.Struct name })
   pub text : slice_get (structs_of lines) number ≡ Some (record { line = line; name = name; fields = fields_of (drop (place + 1) lines) })
+
+abbrev pub is_new : State → Bool
+is_new New = true
+is_new _ = false
+
+-- how many structs are new
+abbrev pub unseen : State → ℕ
+unseen New = 1
+unseen _ = 0
+
+abbrev pub fresh : List State → ℕ
+fresh [] = 0
+fresh (x ∷ xs) = unseen x + fresh xs
+
+-- one step of a walk, after the top was taken off the stack
+pub record Stepped (lines : Lines) (old new : List State) (stack after : List Visit) : Type 0 where
+  pub walking : Walking lines new after
+  pub visited : StaysVisited old new
+  pub falls : 2 * fresh new + length after < 2 * fresh old + (length stack + 1)
+
+-- a struct was visited, and all that it reaches
+pub record Visited (lines : Lines) (old new : List State) (number : ℕ) : Type 0 where
+  pub walking : Walking lines new []
+  pub visited : StaysVisited old new
+  pub here : slice_get new number ≡ Some New → ⊥
+
+-- all structs were visited
+pub record Walked (lines : Lines) (states : List State) : Type 0 where
+  pub walking : Walking lines states []
+  pub visited : (s : ℕ) → slice_get states s ≡ Some New → ⊥
+
+-- the structs below a number were visited
+pub record WalkedTo (lines : Lines) (states : List State) (number : ℕ) : Type 0 where
+  pub walking : Walking lines states []
+  pub visited : (s : ℕ) → s < number → slice_get states s ≡ Some New → ⊥

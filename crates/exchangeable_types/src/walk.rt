@@ -6,7 +6,8 @@ ghost use Rattle.rl_defs.specs.Flattening.{struct_held};
 ghost use Rattle.exchangeable_types.specs.Capped.{CellsOf};
 ghost use Rattle.rl_defs.specs.Holding.{Reaches};
 ghost use Rattle.exchangeable_types.specs.declared.walk.Visit.{Visit as VisitValue};
-ghost use Rattle.exchangeable_types.specs.Walk.{KnowsCells, IsVisit, Walking, Entered, StartsAt, StaysVisited, WaitsFor};
+ghost use Rattle.exchangeable_types.specs.Walk.{KnowsCells, IsVisit, Walking, Entered, StartsAt, WaitsFor, Stepped, Visited, Walked, WalkedTo, is_new};
+ghost use Rattle.exchangeable_types.specs.declared.walk.State.{State as StateValue};
 ghost use Rattle.exchangeable_types.specs.Steps.{IsAdded, IsStop};
 
 use crate::cells::{Cells, MOST, put, put_struct};
@@ -132,7 +133,7 @@ fn enter(alloc: Global, part: &Part, states: &mut Vec<State>, stack: &mut Vec<Vi
         at: start_of(part, number) + 1,
         cells: Cells::Few(List::new(alloc)),
     };
-    set(states, number, State::Open(stack.len()));
+    set(states, number, State::Open(stack.as_slice().len()));
     push(stack, visit)
 }
 
@@ -143,4 +144,97 @@ fn start_of(part: &Part, number: u32) -> usize
     ensures start { StartsAt part.now.lines.now number result }
 {
     part.starts.as_slice()[number as usize] as usize
+}
+
+fn is_new(state: &State) -> bool
+    ensures { result ≡ is_new state.now }
+{
+    matches!(state, State::New)
+}
+
+// A visit waits for a struct: that one is entered, or it is found again and never ends.
+fn wait(alloc: Global, part: &Part, states: &mut Vec<State>, stack: &mut Vec<Visit>, visit: Visit, held: u32) -> Result<(), Memory>
+    requires walking { Walking part.now.lines.now states.old.items (stack.old.items ++ visit ∷ []) }
+    requires waits { WaitsFor part.now.lines.now states.old.items visit.number held }
+    ensures { OnOk result (Stepped part.now.lines.now states.old.items states.new.items stack.old.items stack.new.items) }
+{
+    if is_new(&states[held as usize]) {
+        push(stack, visit)?;
+        return enter(alloc, part, states, stack, held);
+    }
+    set(states, visit.number, State::Endless);
+    Ok(())
+}
+
+// Goes on with the visit that was on top of the stack.
+fn step(alloc: Global, part: &Part, states: &mut Vec<State>, stack: &mut Vec<Visit>, visit: Visit) -> Result<(), Memory>
+    requires { Walking part.now.lines.now states.old.items (stack.old.items ++ visit ∷ []) }
+    ensures { OnOk result (Stepped part.now.lines.now states.old.items states.new.items stack.old.items stack.new.items) }
+{
+    match advance(part, states.as_slice(), visit)? {
+        Stop::Whole(number, cells) => {
+            set(states, number, State::Ended(cells));
+            Ok(())
+        }
+        Stop::Waits(visit, held) => wait(alloc, part, states, stack, visit, held),
+    }
+}
+
+// Visits a new struct, and all that it reaches.
+fn visit_from(alloc: Global, part: &Part, states: &mut Vec<State>, number: u32) -> Result<(), Memory>
+    requires walking { Walking part.now.lines.now states.old.items [] }
+    requires new { slice_get states.old.items number ≡ Some State.New }
+    ensures { OnOk result (Visited part.now.lines.now states.old.items states.new.items number) }
+{
+    let mut stack = Vec::new(alloc);
+    enter(alloc, part, states, &mut stack, number)?;
+    'walk: while let Some(visit) = stack.pop() {
+        step(alloc, part, states, &mut stack, visit)?;
+    }
+    Ok(())
+}
+
+fn all_new(alloc: Global, count: usize) -> Result<Vec<State>, Memory>
+    ensures count { IfOk result (λ states. length states.items ≡ count) }
+    ensures new { IfOk result (λ states. (s : ℕ) (x : StateValue) → slice_get states.items s ≡ Some x → x ≡ State.New) }
+{
+    let mut states = Vec::new(alloc);
+    'states: for _ in 0..count {
+        match states.push(State::New) {
+            Ok(()) => {}
+            Err(_) => return Err(Memory),
+        }
+    }
+    Ok(states)
+}
+
+// Visits the struct of this number, unless it was visited.
+fn visit_next(alloc: Global, part: &Part, states: &mut Vec<State>, number: u32) -> Result<(), Memory>
+    requires walked { WalkedTo part.now.lines.now states.old.items number }
+    requires below { number < length (struct_names part.now.lines.now) }
+    ensures { OnOk result (WalkedTo part.now.lines.now states.new.items (number + 1)) }
+{
+    if is_new(&states.as_slice()[number as usize]) {
+        visit_from(alloc, part, states, number)
+    } else {
+        Ok(())
+    }
+}
+
+/// The structs of a part, each with its cells or found to reach one that holds itself.
+pub fn walk(alloc: Global, part: &Part) -> Result<Vec<State>, Memory>
+    ensures { IfOk result (λ states. Walked part.now.lines.now states.items) }
+{
+    let mut states = all_new(alloc, part.starts.len())?;
+    'structs: for number in 0..count(part) {
+        visit_next(alloc, part, &mut states, number)?;
+    }
+    Ok(states)
+}
+
+/// How many structs the part has.
+pub fn count(part: &Part) -> u32
+    ensures { result ≡ length (struct_names part.now.lines.now) }
+{
+    part.starts.len() as u32
 }
