@@ -4,3 +4,4 @@ pub mod Capping
 pub mod Walks
 pub mod Stack
 pub mod Starts
+pub mod Searches

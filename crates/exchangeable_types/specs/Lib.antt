@@ -3,3 +3,4 @@ pub mod Capped
 pub mod Walk
 pub mod Steps
 pub mod Search
+pub mod Rows

@@ -3,5 +3,6 @@
 
 pub mod cells;
 pub mod part;
+pub mod search;
 pub mod types;
 pub mod walk;

@@ -137,8 +137,8 @@ fn enter(alloc: Global, part: &Part, states: &mut Vec<State>, stack: &mut Vec<Vi
     push(stack, visit)
 }
 
-// The place of the first line of a struct.
-fn start_of(part: &Part, number: u32) -> usize
+/// The place of the first line of a struct.
+pub fn start_of(part: &Part, number: u32) -> usize
     requires { number < length (struct_names part.now.lines.now) }
     ensures below { result < length part.now.lines.now }
     ensures start { StartsAt part.now.lines.now number result }
