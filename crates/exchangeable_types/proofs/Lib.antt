@@ -5,3 +5,4 @@ pub mod Walks
 pub mod Stack
 pub mod Starts
 pub mod Searches
+pub mod RowLaws

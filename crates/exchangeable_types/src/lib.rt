@@ -3,6 +3,7 @@
 
 pub mod cells;
 pub mod part;
+pub mod rows;
 pub mod search;
 pub mod types;
 pub mod walk;

@@ -63,8 +63,8 @@ impl<'a> Part<'a> {
     }
 }
 
-// The name that a line declares for a struct.
-fn struct_name(line: &IdlLine) -> Option<Name>
+/// The name that a line declares for a struct.
+pub fn struct_name(line: &IdlLine) -> Option<Name>
     ensures { result ≡ struct_name line.now }
 {
     match line {
@@ -73,8 +73,8 @@ fn struct_name(line: &IdlLine) -> Option<Name>
     }
 }
 
-// The name that a line declares for a trait.
-fn trait_name(line: &IdlLine) -> Option<Name>
+/// The name that a line declares for a trait.
+pub fn trait_name(line: &IdlLine) -> Option<Name>
     ensures { result ≡ trait_name line.now }
 {
     match line {
