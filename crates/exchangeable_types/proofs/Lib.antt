@@ -6,3 +6,5 @@ pub mod Stack
 pub mod Starts
 pub mod Searches
 pub mod RowLaws
+pub mod RowSteps
+pub mod Checks

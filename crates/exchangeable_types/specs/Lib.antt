@@ -4,3 +4,4 @@ pub mod Walk
 pub mod Steps
 pub mod Search
 pub mod Rows
+pub mod BadLines

@@ -2,11 +2,13 @@
 use Rattle.std.specs.Prelude.{◌≡◌, ℕ, ◌<◌, ◌≤◌, ◌⊎◌, Bool, true, false, List, [], Some, slice_get, length, take, Result, Ok, Err}
 use Rattle.rl_defs.specs.declared.LoadFault.{LoadFault}
 use Rattle.rl_defs.specs.declared.LoadFault.TheVariants.{Refused, Memory}
+use Rattle.rl_defs.specs.declared.bundle.Numbered.{Numbered}
+use Rattle.rl_defs.specs.declared.idl.IdlLine.{IdlLine}
 use Rattle.rl_defs.specs.declared.tables.Kind.{Kind}
 use Rattle.rl_defs.specs.declared.tables.Kind.TheVariants as kind
 use Rattle.rl_defs.specs.declared.tables.StructRow.{StructRow}
 use Rattle.rl_defs.specs.Refusals.{Failing}
-use Rattle.rl_defs.specs.Interfaces.{Lines, FieldText, StructText, structs_of, types_at}
+use Rattle.rl_defs.specs.Interfaces.{Lines, FieldText, StructText, structs_of, types_at, struct_names}
 use Rattle.rl_defs.specs.Flattening.{Flattens}
 use Rattle.rl_defs.specs.Holding.{IsEndless, HoldsRRef}
 use Rattle.rl_defs.specs.TypeRules.{StructAt, AreStructRows}
@@ -96,3 +98,14 @@ pub record RowsTo (lines : Lines) (rows : List StructRow) (number : ℕ) : Type 
 pub record AllRows (lines : Lines) (rows : List StructRow) : Type 0 where
   pub are : AreStructRows lines (structs_of lines) rows
   pub few : (k : ℕ) (row : StructRow) → slice_get rows k ≡ Some row → length row.flat ≤ 512
+
+-- the structs below a number have their rows, and the walk knows the others
+pub record Rowing (lines : Lines) (states : List State) (seen : List Bool) (rows : List StructRow) (number : ℕ) : Type 0 where
+  pub count : length states ≡ length (struct_names lines)
+  pub rest : (s : ℕ) (x : State) → number ≤ s → slice_get states s ≡ Some x → StateAt lines s x
+  pub searching : Searching lines seen []
+  pub to : RowsTo lines rows number
+
+-- the lines are numbered upwards
+abbrev pub Rises : Lines → Type 0
+Rises lines = (j k : ℕ) (x y : Numbered IdlLine) → j < k → slice_get lines j ≡ Some x → slice_get lines k ≡ Some y → x.line < y.line

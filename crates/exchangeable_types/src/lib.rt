@@ -2,8 +2,10 @@
 #![tactic(auto)]
 
 pub mod cells;
+pub mod check;
 pub mod part;
 pub mod rows;
 pub mod search;
 pub mod types;
 pub mod walk;
+
