@@ -1,8 +1,6 @@
 -- The earlier of two refusals.
 use Rattle.std.proofs.Common.{◌≡◌, ℕ, Bool, true, false, suc, ◌+◌, ◌<◌, ◌≤◌, List, [], ◌∷◌, length, cond, nat_eq, Option, Some, None, ◌⊎◌, inl, inr, Ok, refl, sym, ap, subst, ◌∙◌, arith}
-use Rattle.std.specs.Prelude.{slice_get, Err, unwrap_or}
-use Rattle.std.specs.Option.{option_map}
-use Rattle.std.specs.Cmp.Lexicographic.{pointwise}
+use Rattle.std.specs.Prelude.{slice_get, Err}
 use Rattle.std.proofs.lemmas.Bool.{cases_lt, cases_order, cases_Bool}
 use Rattle.rl_defs.specs.declared.LoadFault.{LoadFault}
 use Rattle.rl_defs.specs.declared.LoadFault.TheVariants.{Refused, Memory}
@@ -12,12 +10,10 @@ use Rattle.rl_defs.specs.declared.idl.IdlLine.{IdlLine}
 use Rattle.rl_defs.specs.declared.idl.TypeText.{TypeText}
 use Rattle.rl_defs.specs.declared.tables.StructRow.{StructRow}
 use Rattle.rl_defs.specs.Refusals.{IsFirst, Nowhere, Answers, NotAfter}
-use Rattle.rl_defs.specs.Interfaces.{Lines, types_in, struct_names, trait_names, struct_number, place_of}
-use Rattle.rl_defs.specs.NameRules.{Named, named_struct, FailsNames}
+use Rattle.rl_defs.specs.Interfaces.{Lines, Rises}
 use Rattle.rl_defs.specs.TypeRules.{LineIs, has_bad_type, HasBadType, HoldsItself, HasTooManyCells, HasNestedRRef, FailsTypes, StructRows}
 use Rattle.rl_defs.proofs.Places.{get_within}
-use Rattle.exchangeable_types.specs.Numbering.{DeclaresStructs}
-use Rattle.exchangeable_types.specs.Rows.{Overflows, Nests, FailsStruct, FailsStructs, AllRows, Rises}
+use Rattle.exchangeable_types.specs.Rows.{Overflows, Nests, FailsStruct, FailsStructs, AllRows}
 use Rattle.exchangeable_types.specs.BadLines.{IsFirstBad, IsFirstRefusal}
 
 -- a rule of structs fails as a rule of types, and the other way round
@@ -95,26 +91,6 @@ bad_found lines i x rises h here bad = (record { line = x.form; here = record { 
   alike y e = let is : x ≡ y = cc in omega (arith, ap (λ (z : Numbered IdlLine). z.line) is)
   untrue : {b : Bool} → b ≡ false → b ≡ true → ⊥
   untrue {b} e t = let both : false ≡ true = sym e ∙ t in cc
-
-place_none : (o : Option ℕ) → (o ≡ None → ⊥) → (k : ℕ) × (o ≡ Some k)
-place_none None h = absurd (h refl)
-place_none (Some k) h = (k, refl)
-
-place_less : (name : List ℕ) (names : List (List ℕ)) (k : ℕ) → place_of name names ≡ Some k → k < length names
-place_less name [] k e = absurd cc
-place_less name (x ∷ xs) k e = step (pointwise nat_eq x name) (place_of name xs) k (λ m h. place_less name xs m h) e where
-  step : (b : Bool) (o : Option ℕ) (k : ℕ) → ((m : ℕ) → o ≡ Some m → m < length xs) → cond b (Some 0) (option_map (λ n. suc n) o) ≡ Some k → k < suc (length xs)
-  step true o k more e = let z : 0 ≡ k = cc in omega (arith, z)
-  step false None k more e = absurd cc
-  step false (Some m) k more e = let s : suc m ≡ k = cc in omega (arith, s, more m refl)
-
--- each struct that a type names is declared
-pub declares : (idl : Idl) → Named idl → DeclaresStructs idl.lines
-declares idl named k x place ty name here used names =
-    let found = place_none (place_of name (struct_names idl.lines)) (λ none. named.names x.line 4 (inr (refl, inl (record { line = x.form; here = record { place = k; here = here }; place = place; ty = ty; used = used; name = name; names = names; unknown = none })))) in
-    let lt = place_less name (struct_names idl.lines) found.0 found.1 in
-    let is : struct_number idl.lines name ≡ found.0 = ap (λ (o : Option ℕ). unwrap_or o 0) found.1 in
-    omega (arith, lt, is)
 
 pub not_before : (line rule l r : ℕ) → NotAfter line rule l r → line ≤ l
 not_before line rule l r (inl lt) = omega arith

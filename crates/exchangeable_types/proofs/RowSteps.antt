@@ -10,14 +10,14 @@ use Rattle.rl_defs.specs.declared.idl.IdlLine.{IdlLine}
 use Rattle.rl_defs.specs.declared.idl.IdlLine.TheVariants as form
 use Rattle.rl_defs.specs.declared.tables.StructRow.{StructRow}
 use Rattle.rl_defs.specs.Refusals.{IsFirst, Answers}
-use Rattle.rl_defs.specs.Interfaces.{Lines, StructText, struct_before, structs_of, fields_of, struct_names}
+use Rattle.rl_defs.specs.Interfaces.{Lines, Rises, StructText, struct_before, structs_of, fields_of, struct_names}
 use Rattle.rl_defs.specs.TypeRules.{StructAt, AreStructRows}
 use Rattle.rl_defs.proofs.Places.{get_set, get_set_other, get_within}
 use Rattle.exchangeable_types.specs.declared.walk.State.{State}
 use Rattle.exchangeable_types.specs.declared.walk.State.TheVariants.{New}
 use Rattle.exchangeable_types.specs.Walk.{Walked}
 use Rattle.exchangeable_types.specs.Search.{Searching, StandsIn}
-use Rattle.exchangeable_types.specs.Rows.{FailsStruct, FailsStructs, IsRowAnswer, RowRefused, StateAt, RowsTo, AllRows, Rowing, Rises}
+use Rattle.exchangeable_types.specs.Rows.{FailsStruct, FailsStructs, IsRowAnswer, RowRefused, StateAt, RowsTo, AllRows, Rowing}
 use Rattle.exchangeable_types.proofs.RowLaws.{state_at, rows_more, structs_count}
 
 pub rowing_begins : (lines : Lines) (states : List State) (seen : List Bool) (rows : List StructRow) → Walked lines states → Searching lines seen [] → rows ≡ [] → Rowing lines states seen rows 0

@@ -1,6 +1,8 @@
 -- The steps of a walk through the structs of a part.
-use Rattle.std.proofs.Common.{◌≡◌, ◌≢◌, ℕ, Bool, true, false, zero, suc, ◌+◌, ◌*◌, ◌-◌, ◌<◌, ◌≤◌, List, [], ◌∷◌, ◌++◌, length, drop, get_or, Option, Some, None, ◌⊎◌, inl, inr, refl, sym, ap, subst, ◌∙◌, arith, add-one, append_assoc, length-append}
-use Rattle.std.specs.Prelude.{slice_get, slice_set}
+use Rattle.std.proofs.Common.{cond, nat_eq, ◌≡◌, ◌≢◌, ℕ, Bool, true, false, zero, suc, ◌+◌, ◌*◌, ◌-◌, ◌<◌, ◌≤◌, List, [], ◌∷◌, ◌++◌, length, drop, get_or, Option, Some, None, ◌⊎◌, inl, inr, refl, sym, ap, subst, ◌∙◌, arith, add-one, append_assoc, length-append}
+use Rattle.std.specs.Prelude.{slice_get, slice_set, unwrap_or}
+use Rattle.std.specs.Option.{option_map}
+use Rattle.std.specs.Cmp.Lexicographic.{pointwise}
 use Rattle.std.proofs.lemmas.Option.{slice_get-get_or, slice_get_read}
 use Rattle.std.proofs.lemmas.List.{length-set, append-nil}
 use Rattle.rl_defs.proofs.Places.{get_front, get_seam, get_within, get_last, get_set_same, get_set_other, get_set, drop_at, drop_past}
@@ -9,17 +11,16 @@ use Rattle.rl_defs.specs.declared.bundle.Numbered.{Numbered}
 use Rattle.rl_defs.specs.declared.idl.IdlLine.{IdlLine}
 use Rattle.rl_defs.specs.declared.idl.IdlLine.TheVariants as form
 use Rattle.rl_defs.specs.declared.idl.TypeText.{TypeText}
-use Rattle.rl_defs.specs.Interfaces.{Lines, FieldText, fields_of, field_before, types_of, types_at, types_in, struct_names, struct_number}
+use Rattle.rl_defs.specs.Interfaces.{Lines, FieldText, fields_of, field_before, types_of, types_at, struct_names, struct_number, place_of}
 use Rattle.rl_defs.specs.declared.idl.Base.{Base}
 use Rattle.rl_defs.specs.declared.idl.Base.TheVariants as base
-use Rattle.rl_defs.specs.NameRules.{named_struct}
 use Rattle.rl_defs.specs.Flattening.{struct_held, unless_refused, base_struct, is_refused}
 use Rattle.rl_defs.specs.Holding.{HasField, Reaches, IsEndless}
 use Rattle.exchangeable_types.specs.declared.cells.Cells.{Cells}
 use Rattle.exchangeable_types.specs.declared.walk.State.{State}
 use Rattle.exchangeable_types.specs.declared.walk.State.TheVariants.{New, Open, Endless, Ended}
 use Rattle.exchangeable_types.specs.declared.walk.Visit.{Visit}
-use Rattle.exchangeable_types.specs.Numbering.{field_type, line_type, DeclaresStructs}
+use Rattle.exchangeable_types.specs.Numbering.{field_type, line_type}
 use Rattle.exchangeable_types.specs.Steps.{HoldsUnended}
 use Rattle.exchangeable_types.specs.Capped.{CellsOf}
 use Rattle.exchangeable_types.specs.Walk.{KnowsCells, IsVisit, Walking, StaysVisited, WaitsFor}
@@ -59,34 +60,33 @@ fields_none_step lines k (Some x) e f = ap (λ (xs : Lines). types_of (fields_of
 pub fields_none : (lines : Lines) (k : ℕ) → field_type (slice_get lines k) ≡ None → types_of (fields_of (drop k lines)) ≡ []
 fields_none lines k f = fields_none_step lines k (slice_get lines k) refl f
 
-held_step : (lines : Lines) (refused : Bool) (b : Base) (t : ℕ) → unless_refused refused (base_struct lines b) ≡ Some t → (name : List ℕ) × (named_struct b ≡ Some name) × (struct_number lines name ≡ t)
-held_step lines true b t e = absurd cc
-held_step lines false (base.Struct name) t e = (name, refl, cc)
-held_step lines false (base.Num w) t e = absurd cc
-held_step lines false (base.RRef name) t e = absurd cc
-held_step lines false (base.LentRRef name) t e = absurd cc
-held_step lines false (base.Dyn name) t e = absurd cc
-held_step lines false base.String t e = absurd cc
-held_step lines false base.Function t e = absurd cc
+place_less : (name : List ℕ) (names : List (List ℕ)) (k : ℕ) → place_of name names ≡ Some k → k < length names
+place_less name [] k e = absurd cc
+place_less name (x ∷ xs) k e = step (pointwise nat_eq x name) (place_of name xs) k (λ m h. place_less name xs m h) e where
+  step : (b : Bool) (o : Option ℕ) (k : ℕ) → ((m : ℕ) → o ≡ Some m → m < length xs) → cond b (Some 0) (option_map (λ n. suc n) o) ≡ Some k → k < suc (length xs)
+  step true o k more e = let z : 0 ≡ k = cc in omega (arith, z)
+  step false None k more e = absurd cc
+  step false (Some m) k more e = let s : suc m ≡ k = cc in omega (arith, s, more m refl)
 
-line_type_in : (line : IdlLine) (ty : TypeText) → line_type line ≡ Some ty → slice_get (types_in line) 0 ≡ Some ty
-line_type_in (form.Field name t) ty e = e
-line_type_in (form.Struct name) ty e = absurd cc
-line_type_in (form.Trait name) ty e = absurd cc
-line_type_in form.Idempotent ty e = absurd cc
-line_type_in (form.Method name params result) ty e = absurd cc
-line_type_in form.Close ty e = absurd cc
+number_step : (names : List (List ℕ)) (name : List ℕ) (o : Option ℕ) → place_of name names ≡ o → 0 < length names → unwrap_or o 0 < length names
+number_step names name None e some = some
+number_step names name (Some k) e some = place_less name names k e
 
-declared_step : (lines : Lines) (k : ℕ) (ty : TypeText) (t : ℕ) (o : Option (Numbered IdlLine)) → DeclaresStructs lines → slice_get lines k ≡ o → field_type o ≡ Some ty → struct_held lines ty ≡ Some t → t < length (struct_names lines)
-declared_step lines k ty t None d e f h = absurd cc
-declared_step lines k ty t (Some x) d e f h =
-    let named = held_step lines (is_refused ty) ty.base t h in
-    let lt = d k x 0 ty named.0 e (line_type_in x.form ty f) named.1 in
-    omega (arith, lt, named.2)
+held_step : (lines : Lines) (refused : Bool) (b : Base) (t : ℕ) → 0 < length (struct_names lines) → unless_refused refused (base_struct lines b) ≡ Some t → t < length (struct_names lines)
+held_step lines true b t some e = absurd cc
+held_step lines false (base.Struct name) t some e =
+    let is : struct_number lines name ≡ t = cc in
+    omega (arith, is, number_step (struct_names lines) name (place_of name (struct_names lines)) refl some)
+held_step lines false (base.Num w) t some e = absurd cc
+held_step lines false (base.RRef name) t some e = absurd cc
+held_step lines false (base.LentRRef name) t some e = absurd cc
+held_step lines false (base.Dyn name) t some e = absurd cc
+held_step lines false base.String t some e = absurd cc
+held_step lines false base.Function t some e = absurd cc
 
--- the struct that a field holds is declared
-pub declared_field : (lines : Lines) (k : ℕ) (ty : TypeText) (t : ℕ) → DeclaresStructs lines → field_type (slice_get lines k) ≡ Some ty → struct_held lines ty ≡ Some t → t < length (struct_names lines)
-declared_field lines k ty t d f h = declared_step lines k ty t (slice_get lines k) d refl f h
+-- the struct that a field holds is one of the part's
+pub held_within : (lines : Lines) (ty : TypeText) (t : ℕ) → 0 < length (struct_names lines) → struct_held lines ty ≡ Some t → t < length (struct_names lines)
+held_within lines ty t some h = held_step lines (is_refused ty) ty.base t some h
 
 -- one field more is passed
 pub visit_more : (lines : Lines) (number at : ℕ) (cells more : Cells) (ty : TypeText) → IsVisit lines (record { number = number; at = at; cells = cells }) → field_type (slice_get lines at) ≡ Some ty → ((passed : List TypeText) → CellsOf lines 512 passed cells → CellsOf lines 512 (passed ++ ty ∷ []) more) → IsVisit lines (record { number = number; at = at + 1; cells = more })
@@ -103,12 +103,12 @@ visit_whole lines number at cells v f =
     subst (λ (xs : List TypeText). CellsOf lines 512 xs cells) (sym all) v.cells
 
 -- the next field holds a struct that hasn't ended
-pub visit_waits : (lines : Lines) (states : List State) (number at : ℕ) (cells : Cells) (ty : TypeText) (t : ℕ) → IsVisit lines (record { number = number; at = at; cells = cells }) → DeclaresStructs lines → length states ≡ length (struct_names lines) → field_type (slice_get lines at) ≡ Some ty → HoldsUnended lines states ty t → WaitsFor lines states number t
-visit_waits lines states number at cells ty t v d count f h =
+pub visit_waits : (lines : Lines) (states : List State) (number at : ℕ) (cells : Cells) (ty : TypeText) (t : ℕ) → IsVisit lines (record { number = number; at = at; cells = cells }) → 0 < length (struct_names lines) → length states ≡ length (struct_names lines) → field_type (slice_get lines at) ≡ Some ty → HoldsUnended lines states ty t → WaitsFor lines states number t
+visit_waits lines states number at cells ty t v some count f h =
     let split : types_at lines number ≡ v.passed ++ (ty ∷ types_of (fields_of (drop (at + 1) lines))) = v.split ∙ ap (λ (xs : List TypeText). v.passed ++ xs) (fields_more lines at ty f) in
     record {
       field = record { place = length v.passed; ty = ty; here = subst (λ (xs : List TypeText). slice_get xs (length v.passed) ≡ Some ty) (sym split) (get_seam v.passed ty (types_of (fields_of (drop (at + 1) lines)))); holds = h.held };
-      there = omega (arith, declared_field lines at ty t d f h.held);
+      there = omega (arith, held_within lines ty t some h.held);
       unended = h.unended;
     }
 

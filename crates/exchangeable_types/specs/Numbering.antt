@@ -7,8 +7,7 @@ use Rattle.rl_defs.specs.declared.idl.IdlLine.TheVariants as form
 use Rattle.rl_defs.specs.declared.idl.TypeText.{TypeText}
 use Rattle.rl_defs.specs.declared.idl.Wrap.{Wrap}
 use Rattle.rl_defs.specs.declared.idl.Wrap.TheVariants as wrap
-use Rattle.rl_defs.specs.Interfaces.{Lines, types_in, struct_number, struct_names, trait_number, trait_names}
-use Rattle.rl_defs.specs.NameRules.{named_struct, named_trait}
+use Rattle.rl_defs.specs.Interfaces.{Lines}
 
 -- a look-up of names after one more name was noted, where it wasn't there before
 abbrev pub noted : (List ℕ → Option ℕ) → List ℕ → ℕ → List ℕ → Option ℕ
@@ -22,14 +21,6 @@ start_before k _ more = more
 abbrev pub starts_from : ℕ → Lines → List ℕ
 starts_from k [] = []
 starts_from k (x ∷ xs) = start_before k x.form (starts_from (k + 1) xs)
-
--- each struct that a type names is declared
-abbrev pub DeclaresStructs : Lines → Type 0
-DeclaresStructs lines = (k : ℕ) (x : Numbered IdlLine) (place : ℕ) (ty : TypeText) (name : List ℕ) → slice_get lines k ≡ Some x → slice_get (types_in x.form) place ≡ Some ty → named_struct ty.base ≡ Some name → struct_number lines name < length (struct_names lines)
-
--- each trait that a type names is declared
-abbrev pub DeclaresTraits : Lines → Type 0
-DeclaresTraits lines = (k : ℕ) (x : Numbered IdlLine) (place : ℕ) (ty : TypeText) (name : List ℕ) → slice_get lines k ≡ Some x → slice_get (types_in x.form) place ≡ Some ty → named_trait ty.base ≡ Some name → trait_number lines name < length (trait_names lines)
 
 -- the type of a field line
 abbrev pub line_type : IdlLine → Option TypeText

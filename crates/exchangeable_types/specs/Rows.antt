@@ -2,8 +2,6 @@
 use Rattle.std.specs.Prelude.{◌≡◌, ℕ, ◌<◌, ◌≤◌, ◌⊎◌, Bool, true, false, List, [], Some, slice_get, length, take, Result, Ok, Err}
 use Rattle.rl_defs.specs.declared.LoadFault.{LoadFault}
 use Rattle.rl_defs.specs.declared.LoadFault.TheVariants.{Refused, Memory}
-use Rattle.rl_defs.specs.declared.bundle.Numbered.{Numbered}
-use Rattle.rl_defs.specs.declared.idl.IdlLine.{IdlLine}
 use Rattle.rl_defs.specs.declared.tables.Kind.{Kind}
 use Rattle.rl_defs.specs.declared.tables.Kind.TheVariants as kind
 use Rattle.rl_defs.specs.declared.tables.StructRow.{StructRow}
@@ -105,7 +103,3 @@ pub record Rowing (lines : Lines) (states : List State) (seen : List Bool) (rows
   pub rest : (s : ℕ) (x : State) → number ≤ s → slice_get states s ≡ Some x → StateAt lines s x
   pub searching : Searching lines seen []
   pub to : RowsTo lines rows number
-
--- the lines are numbered upwards
-abbrev pub Rises : Lines → Type 0
-Rises lines = (j k : ℕ) (x y : Numbered IdlLine) → j < k → slice_get lines j ≡ Some x → slice_get lines k ≡ Some y → x.line < y.line

@@ -1,10 +1,10 @@
 //! The check of all types of an interface part.
-ghost use Rattle.std.specs.Prelude.{◌≡◌, ℕ, ◌<◌, ◌≤◌, IsTrue, IfSome, Some, length, slice_get};
+ghost use Rattle.std.specs.Prelude.{◌≡◌, ℕ, ◌<◌, ◌≤◌, ◌^◌, IsTrue, IfSome, Some, length, slice_get};
 ghost use Rattle.rl_defs.specs.declared.tables.StructRow.{StructRow as Row};
 ghost use Rattle.rl_defs.specs.Refusals.{Answers, IsFirst};
-ghost use Rattle.rl_defs.specs.NameRules.{Named};
 ghost use Rattle.rl_defs.specs.TypeRules.{FailsTypes, StructRows};
-ghost use Rattle.exchangeable_types.specs.Rows.{AllRows, FailsStructs, Rises};
+ghost use Rattle.exchangeable_types.specs.Rows.{AllRows, FailsStructs};
+ghost use Rattle.rl_defs.specs.Interfaces.{Rises};
 ghost use Rattle.exchangeable_types.specs.BadLines.{IsFirstBad, IsFirstRefusal};
 
 use crate::part::Part;
@@ -27,7 +27,8 @@ pub struct Types {
 /// Checks the types of an interface part: the rows of its structs, or the first line that the rules 10 to 13 refuse, with the
 /// lowest of these rules there.
 pub fn check_types(alloc: Global, idl: &Idl) -> Result<Types, LoadFault>
-    requires { Named idl.now }
+    requires few { length idl.now.lines < 2 ^ 32 }
+    requires rises { Rises idl.now.lines }
     ensures { Answers (FailsTypes idl.now) (λ types. StructRows idl.now types.structs) result }
 {
     let lines = idl.lines.as_slice();

@@ -3,7 +3,7 @@ ghost use Rattle.std.specs.Prelude.{◌≡◌, ℕ, ◌^◌, ◌<◌, List, leng
 ghost use Rattle.std.specs.Cmp.Lexicographic.{pointwise};
 ghost use Rattle.indexmap.specs.IndexMap.{get};
 ghost use Rattle.rl_defs.specs.Interfaces.{place_of, struct_name, trait_name, struct_names, trait_names, struct_number, trait_number};
-ghost use Rattle.exchangeable_types.specs.Numbering.{noted, starts_from, DeclaresStructs};
+ghost use Rattle.exchangeable_types.specs.Numbering.{noted, starts_from};
 
 use indexmap::IndexMap;
 use rl_defs::Memory;
@@ -27,14 +27,12 @@ pub struct Part<'a> {
     ghost by_struct: { (q : List ℕ) → get (pointwise nat_eq) structs q ≡ place_of q (struct_names lines.now) },
     ghost by_trait: { (q : List ℕ) → get (pointwise nat_eq) traits q ≡ place_of q (trait_names lines.now) },
     ghost begins: { starts ≡ starts_from 0 lines.now },
-    ghost declares: { DeclaresStructs lines.now },
 }
 
 impl<'a> Part<'a> {
     /// The part of these lines.
     pub fn new(alloc: Global, lines: &'a [Numbered<IdlLine>]) -> Result<Part<'a>, Memory>
-        requires few { length lines.now < 2 ^ 32 }
-        requires declared { DeclaresStructs lines.now }
+        requires { length lines.now < 2 ^ 32 }
         ensures { IfOk result (λ part. part.lines.now ≡ lines.now) }
     {
         let structs = structs_by_name(alloc, lines)?;

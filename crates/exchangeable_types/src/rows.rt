@@ -1,10 +1,10 @@
 //! The rows of structs, in the order of the text.
 ghost use Rattle.std.specs.Prelude.{◌≡◌, ℕ, ◌+◌, ◌++◌, ◌∷◌, [], ◌<◌, ◌≤◌, Some, length, slice_get, slice_set, IfOk, IfErr, OnOk, Err};
-ghost use Rattle.rl_defs.specs.Interfaces.{struct_names};
+ghost use Rattle.rl_defs.specs.Interfaces.{Rises, struct_names};
 ghost use Rattle.rl_defs.specs.Refusals.{Answers};
 ghost use Rattle.exchangeable_types.specs.Search.{Searching};
 ghost use Rattle.exchangeable_types.specs.Walk.{Walked};
-ghost use Rattle.exchangeable_types.specs.Rows.{StateAt, IsHead, IsNested, IsRowAnswer, AllRows, FailsStructs, Rowing, Rises};
+ghost use Rattle.exchangeable_types.specs.Rows.{StateAt, IsHead, IsNested, IsRowAnswer, AllRows, FailsStructs, Rowing};
 
 use crate::cells::Cells;
 use crate::part::{Part, struct_name};

@@ -81,6 +81,7 @@ fn advance(part: &Part, states: &[State], visit: Visit) -> Result<Stop, Memory>
     requires count { length states.now ≡ length (struct_names part.now.lines.now) }
     requires known { KnowsCells part.now.lines.now states.now }
     requires visit { IsVisit part.now.lines.now visit }
+    requires below { visit.number < length states.now }
     ensures { IfOk result (IsStop part.now.lines.now states.now visit.number) }
 {
     let number = visit.number;

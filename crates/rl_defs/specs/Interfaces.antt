@@ -1,5 +1,5 @@
 -- The structs and traits that the lines of an interface part give, in the order of the text.
-use Rattle.std.specs.Prelude.{ℕ, suc, Bool, true, false, List, [], ◌∷◌, ◌++◌, Option, Some, None, if◌then◌else◌, slice_get, unwrap_or, nat_eq}
+use Rattle.std.specs.Prelude.{◌≡◌, ◌<◌, ℕ, suc, Bool, true, false, List, [], ◌∷◌, ◌++◌, Option, Some, None, if◌then◌else◌, slice_get, unwrap_or, nat_eq}
 use Rattle.std.specs.Option.{option_map, option_to_list}
 use Rattle.std.specs.Cmp.Lexicographic.{pointwise}
 use Rattle.rl_defs.specs.declared.bundle.Numbered.{Numbered}
@@ -12,6 +12,10 @@ use Rattle.rl_defs.specs.declared.idl.ResultText.TheVariants as results
 
 abbrev pub Lines : Type 0
 Lines = List (Numbered IdlLine)
+
+-- the lines are numbered upwards
+abbrev pub Rises : Lines → Type 0
+Rises lines = (j k : ℕ) (x y : Numbered IdlLine) → j < k → slice_get lines j ≡ Some x → slice_get lines k ≡ Some y → x.line < y.line
 
 -- a field of a struct, and the number of its line
 pub record FieldText : Type 0 where

@@ -10,7 +10,7 @@ use Rattle.rl_defs.specs.declared.idl.TypeText.{TypeText}
 use Rattle.rl_defs.specs.declared.idl.Param.{Param}
 use Rattle.rl_defs.specs.declared.idl.ResultText.{ResultText}
 use Rattle.rl_defs.specs.Refusals.{Failing, Nowhere}
-use Rattle.rl_defs.specs.Interfaces.{Lines, FieldText, StructText, MethodText, TraitText, structs_of, traits_of, types_in, struct_names, trait_names, place_of}
+use Rattle.rl_defs.specs.Interfaces.{Lines, Rises, FieldText, StructText, MethodText, TraitText, structs_of, traits_of, types_in, struct_names, trait_names, place_of}
 use Rattle.rl_defs.specs.TypeRules.{LineIs}
 
 -- the name that a struct or trait line declares
@@ -119,5 +119,5 @@ FailsNames idl n rule = ((rule ≡ 3) × (DeclaredTwice idl.lines n ⊎ (FieldTw
 -- trait is in none of their rows.
 pub record Named (idl : Idl) : Type 0 where
   pub few : length idl.lines < 2 ^ 32
-  pub rises : (j k : ℕ) (x y : Numbered IdlLine) → j < k → slice_get idl.lines j ≡ Some x → slice_get idl.lines k ≡ Some y → x.line < y.line
+  pub rises : Rises idl.lines
   pub names : Nowhere (FailsNames idl)

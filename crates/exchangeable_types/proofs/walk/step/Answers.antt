@@ -1,4 +1,4 @@
-use Rattle.std.proofs.Common.{◌≡◌, ◌<◌, ℕ, List, length, arith, sym, subst}
+use Rattle.std.proofs.Common.{◌≡◌, ◌<◌, ℕ, List, length, arith, ap, subst}
 use Rattle.exchangeable_types.specs.declared.walk.State.{State}
 use Rattle.exchangeable_types.specs.declared.walk.Stop.{Stop}
 use Rattle.exchangeable_types.specs.Steps.{IsStop}
@@ -19,3 +19,6 @@ pub returns-in-Whole : goal.returns-in-Whole
 returns-in-Whole c =
     let stop = subst (λ (x : Stop). IsStop c.args.part.now.lines.now c.as_slice.result.now c.args.visit.number x) c.in-Whole.is c.in_ok-number.ensures in
     stepped_whole c.args.part.now.lines.now c.args.states.now.items c.set.new.states.items c.args.stack.now.items c.args.visit c.in-Whole.number c.in-Whole.cells c.requires stop.0 stop.1 c.set.ensures
+
+pub advance-requires-clause-below : goal.advance-requires-clause-below
+advance-requires-clause-below c = omega (arith, ap length c.as_slice.ensures.value, top_within c.args.part.now.lines.now c.args.states.now.items c.args.stack.now.items c.args.visit c.requires)
