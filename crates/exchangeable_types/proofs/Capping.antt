@@ -1,5 +1,5 @@
 -- Kinds that are put behind others, up to a limit.
-use Rattle.std.proofs.Common.{◌≡◌, ℕ, zero, suc, ◌+◌, ◌*◌, ◌<◌, ◌≤◌, min, List, [], ◌∷◌, ◌++◌, length, ◌⊎◌, inl, inr, refl, sym, ap, subst, ◌∙◌, arith, length-append}
+use Rattle.std.proofs.Common.{◌≡◌, ℕ, zero, suc, ◌+◌, ◌*◌, ◌<◌, ◌≤◌, min, List, [], ◌∷◌, ◌++◌, length, inl, inr, refl, sym, ap, subst, ◌∙◌, arith, length-append}
 use Rattle.std.proofs.Math.Nat.{mul-le-mul_left}
 use Rattle.std.proofs.lemmas.Bool.{cases_lt}
 use Rattle.std.proofs.lemmas.List.{append-nil}
@@ -11,7 +11,7 @@ use Rattle.rl_defs.specs.Interfaces.{Lines, types_at}
 use Rattle.rl_defs.specs.Flattening.{copies, times_of, struct_held, kind_held, Flattens, Ends}
 use Rattle.rl_defs.proofs.FlatteningLaws.{length-copies, copies-nil, flattens_plain, flattens_fields}
 use Rattle.exchangeable_types.specs.declared.cells.Cells.{Cells}
-use Rattle.exchangeable_types.specs.declared.cells.Cells.TheVariants.{Few, TooMany}
+use Rattle.exchangeable_types.specs.declared.cells.Cells.TheVariants.{Few}
 use Rattle.exchangeable_types.specs.Capped.{IsCapped, CellsOf}
 
 -- where the counted copies are too many, so are all

@@ -1,19 +1,17 @@
 -- The earlier of two refusals.
-use Rattle.std.proofs.Common.{◌≡◌, ℕ, Bool, true, false, suc, ◌+◌, ◌<◌, ◌≤◌, List, [], ◌∷◌, length, cond, nat_eq, Option, Some, None, ◌⊎◌, inl, inr, Ok, refl, sym, ap, subst, ◌∙◌, arith}
+use Rattle.std.proofs.Common.{◌≡◌, ℕ, Bool, true, false, ◌+◌, ◌<◌, ◌≤◌, length, Some, None, ◌⊎◌, inl, inr, refl, sym, ap, subst, ◌∙◌, arith}
 use Rattle.std.specs.Prelude.{slice_get, Err}
-use Rattle.std.proofs.lemmas.Bool.{cases_lt, cases_order, cases_Bool}
+use Rattle.std.proofs.lemmas.Bool.{cases_lt, cases_order}
 use Rattle.rl_defs.specs.declared.LoadFault.{LoadFault}
 use Rattle.rl_defs.specs.declared.LoadFault.TheVariants.{Refused, Memory}
 use Rattle.rl_defs.specs.declared.bundle.Numbered.{Numbered}
 use Rattle.rl_defs.specs.declared.idl.Idl.{Idl}
 use Rattle.rl_defs.specs.declared.idl.IdlLine.{IdlLine}
-use Rattle.rl_defs.specs.declared.idl.TypeText.{TypeText}
-use Rattle.rl_defs.specs.declared.tables.StructRow.{StructRow}
 use Rattle.rl_defs.specs.Refusals.{IsFirst, Nowhere, Answers, NotAfter}
 use Rattle.rl_defs.specs.Interfaces.{Lines, Rises}
-use Rattle.rl_defs.specs.TypeRules.{LineIs, has_bad_type, HasBadType, HoldsItself, HasTooManyCells, HasNestedRRef, FailsTypes, StructRows}
+use Rattle.rl_defs.specs.TypeRules.{has_bad_type, HasBadType, FailsTypes}
 use Rattle.rl_defs.proofs.Places.{get_within}
-use Rattle.exchangeable_types.specs.Rows.{Overflows, Nests, FailsStruct, FailsStructs, AllRows}
+use Rattle.exchangeable_types.specs.Rows.{FailsStructs}
 use Rattle.exchangeable_types.specs.BadLines.{IsFirstBad, IsFirstRefusal}
 
 -- a rule of structs fails as a rule of types, and the other way round
@@ -82,13 +80,17 @@ good_all lines i le h n bad =
     cc
 
 pub bad_found : (lines : Lines) (i : ℕ) (x : Numbered IdlLine) → Rises lines → GoodTo lines i → slice_get lines i ≡ Some x → has_bad_type x.form ≡ true → IsFirstBad lines (Some x.line)
-bad_found lines i x rises h here bad = (record { line = x.form; here = record { place = i; here = here }; bad = bad }, λ m other. elim (cases_order i other.here.place) [
-  | inl same ↦ alike (record { line = m; form = other.line }) (sym here ∙ subst (λ (n : ℕ). slice_get lines n ≡ Some (record { line = m; form = other.line })) (sym same) other.here.here)
-  | inr (inl less) ↦ omega (arith, rises i other.here.place x (record { line = m; form = other.line }) less here other.here.here)
-  | inr (inr more) ↦ absurd (untrue (h.good other.here.place (record { line = m; form = other.line }) more other.here.here ) other.bad)
-]) where
+bad_found lines i x rises h here bad = (
+  record { line = x.form; here = record { place = i; here = here }; bad = bad },
+  λ m other. elim (cases_order i other.here.place) [
+    | inl same ↦ alike (record { line = m; form = other.line }) (sym here ∙ subst (λ (n : ℕ). slice_get lines n ≡ Some (record { line = m; form = other.line })) (sym same) other.here.here)
+    | inr (inl less) ↦ omega (arith, rises i other.here.place x (record { line = m; form = other.line }) less here other.here.here)
+    | inr (inr more) ↦ absurd (untrue (h.good other.here.place (record { line = m; form = other.line }) more other.here.here) other.bad)
+  ],
+) where
   alike : (y : Numbered IdlLine) → Some x ≡ Some y → x.line ≤ y.line
   alike y e = let is : x ≡ y = cc in omega (arith, ap (λ (z : Numbered IdlLine). z.line) is)
+
   untrue : {b : Bool} → b ≡ false → b ≡ true → ⊥
   untrue {b} e t = let both : false ≡ true = sym e ∙ t in cc
 

@@ -1,7 +1,7 @@
 -- Names and their numbers, line by line.
-use Rattle.std.proofs.Common.{◌≡◌, ℕ, zero, suc, ◌+◌, ◌<◌, ◌≤◌, Bool, true, false, List, [], ◌∷◌, ◌++◌, length, take, drop, Option, Some, None, refl, sym, ap, subst, ◌∙◌, arith, add-one, append_assoc, length-append, cond, nat_eq}
+use Rattle.std.proofs.Common.{◌≡◌, ℕ, zero, suc, ◌+◌, ◌≤◌, Bool, true, false, List, [], ◌∷◌, ◌++◌, length, take, drop, Option, Some, None, refl, sym, ap, ◌∙◌, arith, add-one, append_assoc, length-append, cond, nat_eq}
 use Rattle.std.proofs.lemmas.List.{append-nil}
-use Rattle.std.specs.Prelude.{slice_get, if◌then◌else◌, is_some}
+use Rattle.std.specs.Prelude.{slice_get, is_some}
 use Rattle.std.specs.Option.{option_map, option_to_list}
 use Rattle.std.specs.Cmp.Lexicographic.{pointwise}
 use Rattle.rl_defs.specs.declared.bundle.Numbered.{Numbered}
@@ -32,6 +32,7 @@ place_of_push (x ∷ xs) name q = pushed (pointwise nat_eq x q) (pointwise nat_e
   mapped b c (Some k) n = refl
   mapped b true None n = refl
   mapped b false None n = refl
+
   pushed : (b c : Bool) (old new : Option ℕ) (n : ℕ) → new ≡ cond (is_some old) old (cond c (Some n) None) → cond b (Some 0) (option_map (λ k. suc k) new) ≡ cond (is_some (cond b (Some 0) (option_map (λ k. suc k) old))) (cond b (Some 0) (option_map (λ k. suc k) old)) (cond c (Some (suc n)) None)
   pushed true c old new n e = refl
   pushed false c old new n e = ap (option_map (λ k. suc k)) e ∙ mapped false c old n

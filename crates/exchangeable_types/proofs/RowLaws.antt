@@ -1,12 +1,11 @@
 -- What is answered for each struct.
-use Rattle.std.proofs.Common.{◌≡◌, ℕ, Bool, true, false, zero, suc, ◌+◌, ◌<◌, ◌≤◌, List, [], ◌∷◌, ◌++◌, length, take, get_or, Option, Some, None, ◌⊎◌, inl, inr, Ok, refl, sym, ap, subst, ◌∙◌, arith, add-one, length-append}
+use Rattle.std.proofs.Common.{◌≡◌, ℕ, Bool, true, false, zero, suc, ◌+◌, ◌<◌, ◌≤◌, List, [], ◌∷◌, ◌++◌, length, take, Some, None, inl, inr, Ok, refl, sym, ap, subst, ◌∙◌, arith, add-one, length-append}
 use Rattle.std.specs.Prelude.{slice_get, Result, Err, IfOk}
 use Rattle.std.specs.Option.{option_to_list}
 use Rattle.std.proofs.lemmas.Bool.{cases_lt}
-use Rattle.std.proofs.lemmas.Option.{slice_get-get_or, slice_get_past}
+use Rattle.std.proofs.lemmas.Option.{slice_get_past}
 use Rattle.rl_defs.specs.declared.LoadFault.{LoadFault}
-use Rattle.rl_defs.specs.declared.LoadFault.TheVariants.{Refused, Memory}
-use Rattle.rl_defs.specs.declared.bundle.Numbered.{Numbered}
+use Rattle.rl_defs.specs.declared.LoadFault.TheVariants.{Refused}
 use Rattle.rl_defs.specs.declared.idl.IdlLine.{IdlLine}
 use Rattle.rl_defs.specs.declared.idl.IdlLine.TheVariants as form
 use Rattle.rl_defs.specs.declared.idl.TypeText.{TypeText}
@@ -15,20 +14,20 @@ use Rattle.rl_defs.specs.declared.tables.Kind.TheVariants as kind
 use Rattle.rl_defs.specs.declared.tables.StructRow.{StructRow}
 use Rattle.rl_defs.specs.Interfaces.{Lines, StructText, struct_before, structs_of, fields_of, types_of, types_at, field_types, struct_name, names_by, struct_names}
 use Rattle.rl_defs.specs.Flattening.{struct_held, Flattens, Ends, Plain, Fields}
-use Rattle.rl_defs.specs.Holding.{HasField, Leads, Reaches, IsEndless, HasRRef, HoldsRRef}
+use Rattle.rl_defs.specs.Holding.{HasField, Leads, IsEndless, HoldsRRef}
 use Rattle.rl_defs.specs.TypeRules.{StructAt, IsStructRow, AreStructRows}
 use Rattle.rl_defs.proofs.FlatteningLaws.{flattens_once}
 use Rattle.rl_defs.proofs.HoldingLaws.{fields_end}
-use Rattle.rl_defs.proofs.Places.{get_within, get_last, get_front, get_seam}
+use Rattle.rl_defs.proofs.Places.{get_within, get_last}
 use Rattle.exchangeable_types.specs.declared.cells.Cells.{Cells}
 use Rattle.exchangeable_types.specs.declared.cells.Cells.TheVariants.{Few, TooMany}
 use Rattle.exchangeable_types.specs.declared.walk.State.{State}
-use Rattle.exchangeable_types.specs.declared.walk.State.TheVariants.{New, Open, Endless, Ended}
+use Rattle.exchangeable_types.specs.declared.walk.State.TheVariants.{Open, Ended}
 use Rattle.exchangeable_types.specs.declared.rows.Head.{Head}
 use Rattle.exchangeable_types.specs.Capped.{CellsOf}
-use Rattle.exchangeable_types.specs.Walk.{StartsAt, Walking, Walked}
-use Rattle.exchangeable_types.specs.Search.{Searching, IsSearch}
-use Rattle.exchangeable_types.specs.Rows.{Overflows, Nests, FailsStruct, IsRowAt, RowRefused, IsRowAnswer, StateAt, IsHead, NestedCell, IsNested, RowsTo}
+use Rattle.exchangeable_types.specs.Walk.{Walked}
+use Rattle.exchangeable_types.specs.Search.{IsSearch}
+use Rattle.exchangeable_types.specs.Rows.{Overflows, FailsStruct, RowRefused, IsRowAnswer, StateAt, IsHead, NestedCell, IsNested, RowsTo}
 
 field_ends : (lines : Lines) (types : List TypeText) (kinds : List Kind) → Flattens lines types kinds → (k : ℕ) (ty : TypeText) (t : ℕ) → slice_get types k ≡ Some ty → struct_held lines ty ≡ Some t → IsEndless lines t → ⊥
 field_ends lines types kinds (Ends a b) k ty t e held endless = let none : slice_get [] k ≡ Some ty = subst (λ (xs : List TypeText). slice_get xs k ≡ Some ty) a e in absurd cc
@@ -85,13 +84,16 @@ refused_nested lines s head flat h f few n = record {
 
 -- no rule refuses the struct
 pub row_stands : (lines : Lines) (s : ℕ) (head : Head) (flat : List Kind) → IsHead lines s head → Flattens lines (types_at lines s) flat → length flat ≤ 512 → (NestedCell lines flat → ⊥) → IsRowAnswer lines s (Ok (record { name = head.name; flat = flat }))
-row_stands lines s head flat h f few none = (λ r g. elim g [
-  | inl a ↦ flat_ends lines s flat f a.1
-  | inr b ↦ elim b [
+row_stands lines s head flat h f few none = (
+  λ r g. elim g [
+    | inl a ↦ flat_ends lines s flat f a.1
+    | inr b ↦ elim b [
       | inl a ↦ not_many lines s flat f few a.1
       | inr a ↦ none (record { place = a.1.place; held = a.1.held; cell = subst (λ (ks : List Kind). slice_get ks a.1.place ≡ Some (kind.Own a.1.held)) (flattens_once lines (types_at lines s) a.1.cells flat a.1.flat f) a.1.cell; nested = a.1.nested })
     ]
-  ], record { text = record { line = head.line; name = head.name; fields = h.fields }; here = h.here; name = refl; flat = f; few = few })
+  ],
+  record { text = record { line = head.line; name = head.name; fields = h.fields }; here = h.here; name = refl; flat = f; few = few },
+)
 
 -- the cells that a state knows
 pub few_cells : (lines : Lines) (types : List TypeText) (list : List Kind) → CellsOf lines 512 types (Few list) → Flattens lines types list × (length list ≤ 512)
@@ -177,8 +179,8 @@ rows_more lines rows more number row h answer is =
       ];
       few = λ k x e. elim (get_last rows row k x e) [ inl a ↦ h.few k x a | inr a ↦ subst (λ (y : StructRow). length y.flat ≤ 512) (sym a.1) answer.1.few ];
     }) where
-  flat : Flattens lines (types_of answer.1.text.fields) row.flat
-  flat = subst (λ (xs : List TypeText). Flattens lines xs row.flat) (ap field_types answer.1.here) answer.1.flat
+      flat : Flattens lines (types_of answer.1.text.fields) row.flat
+      flat = subst (λ (xs : List TypeText). Flattens lines xs row.flat) (ap field_types answer.1.here) answer.1.flat
 
 -- none of the kinds before a place is an RRef of a struct that holds an RRef
 pub record NoneBefore (lines : Lines) (kinds : List Kind) (i : ℕ) : Type 0 where

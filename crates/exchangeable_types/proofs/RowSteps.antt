@@ -1,7 +1,7 @@
 -- Row by row, and the first struct that is refused.
-use Rattle.std.proofs.Common.{◌≡◌, ◌≢◌, ℕ, Bool, true, false, zero, suc, ◌+◌, ◌<◌, ◌≤◌, List, [], ◌∷◌, ◌++◌, length, take, Option, Some, None, ◌⊎◌, inl, inr, Ok, refl, sym, ap, subst, ◌∙◌, arith}
-use Rattle.std.specs.Prelude.{slice_get, slice_set, Result, Err}
-use Rattle.std.proofs.lemmas.Bool.{cases_lt, cases_order}
+use Rattle.std.proofs.Common.{◌≡◌, ℕ, Bool, true, zero, suc, ◌+◌, ◌<◌, ◌≤◌, List, [], ◌∷◌, ◌++◌, length, take, Some, inl, inr, Ok, refl, sym, ap, subst, ◌∙◌, arith}
+use Rattle.std.specs.Prelude.{slice_get, slice_set, Err}
+use Rattle.std.proofs.lemmas.Bool.{cases_order}
 use Rattle.std.proofs.lemmas.List.{length-set, take_all}
 use Rattle.rl_defs.specs.declared.LoadFault.{LoadFault}
 use Rattle.rl_defs.specs.declared.LoadFault.TheVariants.{Refused, Memory}
@@ -9,15 +9,15 @@ use Rattle.rl_defs.specs.declared.bundle.Numbered.{Numbered}
 use Rattle.rl_defs.specs.declared.idl.IdlLine.{IdlLine}
 use Rattle.rl_defs.specs.declared.idl.IdlLine.TheVariants as form
 use Rattle.rl_defs.specs.declared.tables.StructRow.{StructRow}
-use Rattle.rl_defs.specs.Refusals.{IsFirst, Answers}
+use Rattle.rl_defs.specs.Refusals.{Answers}
 use Rattle.rl_defs.specs.Interfaces.{Lines, Rises, StructText, struct_before, structs_of, fields_of, struct_names}
 use Rattle.rl_defs.specs.TypeRules.{StructAt, AreStructRows}
-use Rattle.rl_defs.proofs.Places.{get_set, get_set_other, get_within}
+use Rattle.rl_defs.proofs.Places.{get_set, get_within}
 use Rattle.exchangeable_types.specs.declared.walk.State.{State}
 use Rattle.exchangeable_types.specs.declared.walk.State.TheVariants.{New}
 use Rattle.exchangeable_types.specs.Walk.{Walked}
-use Rattle.exchangeable_types.specs.Search.{Searching, StandsIn}
-use Rattle.exchangeable_types.specs.Rows.{FailsStruct, FailsStructs, IsRowAnswer, RowRefused, StateAt, RowsTo, AllRows, Rowing}
+use Rattle.exchangeable_types.specs.Search.{Searching}
+use Rattle.exchangeable_types.specs.Rows.{FailsStruct, FailsStructs, IsRowAnswer, RowsTo, AllRows, Rowing}
 use Rattle.exchangeable_types.proofs.RowLaws.{state_at, rows_more, structs_count}
 
 pub rowing_begins : (lines : Lines) (states : List State) (seen : List Bool) (rows : List StructRow) → Walked lines states → Searching lines seen [] → rows ≡ [] → Rowing lines states seen rows 0
@@ -28,9 +28,9 @@ rowing_begins lines states seen rows w searching is =
       searching = searching;
       to = record { count = refl; are = empty (structs_of lines); none = λ s r lt f. omega arith; few = λ k row e. absurd cc };
     }) where
-  empty : (ts : List StructText) → AreStructRows lines (take 0 ts) []
-  empty [] = tt
-  empty (t ∷ ts) = tt
+      empty : (ts : List StructText) → AreStructRows lines (take 0 ts) []
+      empty [] = tt
+      empty (t ∷ ts) = tt
 
 pub rowing_more : (lines : Lines) (states left : List State) (seen after : List Bool) (rows more : List StructRow) (number : ℕ) (row : StructRow) → Rowing lines states seen rows number → left ≡ slice_set states number New → IsRowAnswer lines number (Ok row) → Searching lines after [] → more ≡ rows ++ row ∷ [] → Rowing lines left after more (number + 1)
 rowing_more lines states left seen after rows more number row h is answer searching put = record {
@@ -42,10 +42,13 @@ rowing_more lines states left seen after rows more number row h is answer search
 
 -- all structs have their rows
 pub rowing_ends : (lines : Lines) (states : List State) (seen : List Bool) (rows : List StructRow) (number : ℕ) → Rowing lines states seen rows number → length (struct_names lines) ≤ number → Answers (FailsStructs lines) (AllRows lines) (Ok rows)
-rowing_ends lines states seen rows number h le = (λ n r f. h.to.none f.0 r (omega (arith, get_within (structs_of lines) f.0 f.1.text f.1.here, structs_count lines, le)) f.2, record {
-  are = subst (λ (ts : List StructText). AreStructRows lines ts rows) (take_all number (structs_of lines) (omega (arith, structs_count lines, le))) h.to.are;
-  few = h.to.few;
-})
+rowing_ends lines states seen rows number h le = (
+  λ n r f. h.to.none f.0 r (omega (arith, get_within (structs_of lines) f.0 f.1.text f.1.here, structs_count lines, le)) f.2,
+  record {
+    are = subst (λ (ts : List StructText). AreStructRows lines ts rows) (take_all number (structs_of lines) (omega (arith, structs_count lines, le))) h.to.are;
+    few = h.to.few;
+  },
+)
 
 tail_rises : (x : Numbered IdlLine) (xs : Lines) → Rises (x ∷ xs) → Rises xs
 tail_rises x xs h j k a b lt p q = h (suc j) (suc k) a b (omega (arith, lt)) p q
@@ -81,8 +84,8 @@ rise_step n (form.Struct name) xs zero (suc b) t u below more lt e f =
     let h = struct_line xs b u f in
     let up = below h.0 h.1 h.2 in
     omega (arith, up, h.3, first (record { line = n; name = name; fields = fields_of xs }) e) where
-  first : (v : StructText) → Some v ≡ Some t → v.line ≡ t.line
-  first v h = let is : v ≡ t = cc in ap (λ (w : StructText). w.line) is
+      first : (v : StructText) → Some v ≡ Some t → v.line ≡ t.line
+      first v h = let is : v ≡ t = cc in ap (λ (w : StructText). w.line) is
 rise_step n (form.Struct name) xs (suc a) (suc b) t u below more lt e f = more a b (omega (arith, lt)) e f
 rise_step n (form.Field name ty) xs s z t u below more lt e f = more s z lt e f
 rise_step n (form.Trait name) xs s z t u below more lt e f = more s z lt e f

@@ -1,5 +1,5 @@
 -- The steps of a search for an RRef.
-use Rattle.std.proofs.Common.{◌≡◌, ◌≢◌, ℕ, Bool, true, false, zero, suc, ◌+◌, ◌*◌, ◌<◌, ◌≤◌, List, [], ◌∷◌, ◌++◌, length, drop, Option, Some, None, ◌⊎◌, inl, inr, refl, sym, ap, subst, ◌∙◌, arith, append_assoc, length-append}
+use Rattle.std.proofs.Common.{◌≡◌, ℕ, Bool, true, false, zero, suc, ◌+◌, ◌*◌, ◌<◌, ◌≤◌, List, [], ◌∷◌, ◌++◌, length, drop, Some, None, ◌⊎◌, inl, inr, refl, sym, ap, subst, ◌∙◌, arith, append_assoc, length-append}
 use Rattle.std.specs.Prelude.{slice_get, slice_set, IsTrue}
 use Rattle.std.proofs.lemmas.List.{length-set, append-nil}
 use Rattle.rl_defs.proofs.Places.{get_front, get_seam, get_within, get_last, get_set_same, get_set_other, get_set}
@@ -10,7 +10,7 @@ use Rattle.rl_defs.specs.Flattening.{struct_held}
 use Rattle.rl_defs.specs.Holding.{HasField, Reaches, holds_rref, HasRRef, HoldsRRef}
 use Rattle.exchangeable_types.specs.Numbering.{field_type}
 use Rattle.exchangeable_types.specs.Walk.{StartsAt}
-use Rattle.exchangeable_types.specs.Search.{IsClean, StandsIn, Searching, AllLead, unmarked, unmarked_count, Marks, Scanned, IsScan, IsSearch}
+use Rattle.exchangeable_types.specs.Search.{IsClean, StandsIn, Searching, AllLead, unmarked, unmarked_count, Marks, Scanned}
 use Rattle.exchangeable_types.proofs.Starts.{types_at_start}
 use Rattle.exchangeable_types.proofs.Walks.{fields_more, fields_none}
 
@@ -43,8 +43,8 @@ marks_one seen new todo after held e n a =
       count = length-set seen held true;
       falls = omega (arith, unmarked_set seen held false true e, length-append todo (held ∷ []));
     })) where
-  apart : Some true ≡ Some false → ⊥
-  apart h = cc
+      apart : Some true ≡ Some false → ⊥
+      apart h = cc
 
 -- the types that were passed are no RRef, and hold only structs that were seen
 abbrev pub ArePassed : Lines → List Bool → List TypeText → Type 0
@@ -120,9 +120,9 @@ scan_marks lines old seen new before todo after number at held ty h f none is lt
   count = m.count ∙ h.count;
   clean = λ s e. elim (m.only s e) [
     | inl a ↦ elim (h.clean s a) [
-        | inl b ↦ elim b [ inl d ↦ inl (inl (m.kept s d)) | inr d ↦ inl (inr d) ]
-        | inr b ↦ inr (record { none = b.none; closed = λ t field. m.stays t (b.closed t field) })
-      ]
+      | inl b ↦ elim b [ inl d ↦ inl (inl (m.kept s d)) | inr d ↦ inl (inr d) ]
+      | inr b ↦ inr (record { none = b.none; closed = λ t field. m.stays t (b.closed t field) })
+    ]
     | inr a ↦ inl (inl a)
   ];
   below = λ s a. elim (m.more s a) [ inl b ↦ omega (arith, h.below s b, m.count) | inr b ↦ omega (arith, b, lt, m.count) ];
@@ -138,6 +138,7 @@ scan_marks lines old seen new before todo after number at held ty h f none is lt
 } where
   field : HasField lines number held
   field = record { place = length h.passed; ty = ty; here = field_here lines number at h.passed ty h.split f; holds = is }
+
   onward : (first : ℕ) → (number ≡ first) ⊎ Reaches lines first number → (held ≡ first) ⊎ Reaches lines first held
   onward first (inl same) = inr (subst (λ (k : ℕ). Reaches lines k held) same (reaches_field lines number held field))
   onward first (inr r) = inr (reaches_more lines first number held r field)
@@ -162,19 +163,22 @@ scan_ends lines old seen before todo number at h f =
       falls = h.falls;
       stays = h.stays;
     } where
-  untrue : (ty : TypeText) → holds_rref ty ≡ false → IsTrue (holds_rref ty) → ⊥
-  untrue ty e t = let both : false ≡ true = sym e ∙ t in cc
+      untrue : (ty : TypeText) → holds_rref ty ≡ false → IsTrue (holds_rref ty) → ⊥
+      untrue ty e t = let both : false ≡ true = sym e ∙ t in cc
 
 -- the first struct is to be looked at
 pub search_begins : (lines : Lines) (seen new : List Bool) (after : List ℕ) (first : ℕ) → Searching lines seen [] → first < length seen → Marks seen new [] after first → Searching lines new after × AllLead lines after first
-search_begins lines seen new after first h lt m = (record {
-  count = m.count ∙ h.count;
-  clean = λ s e. elim (m.only s e) [
-    | inl a ↦ elim (h.clean s a) [ inl b ↦ inl (m.kept s b) | inr b ↦ inr (record { none = b.none; closed = λ t field. m.stays t (b.closed t field) }) ]
-    | inr a ↦ inl a
-  ];
-  below = λ s a. elim (m.more s a) [ inl b ↦ absurd (empty s b) | inr b ↦ omega (arith, b, lt, m.count) ];
-}, λ s a. elim (m.more s a) [ inl b ↦ absurd (empty s b) | inr b ↦ inl b ]) where
+search_begins lines seen new after first h lt m = (
+  record {
+    count = m.count ∙ h.count;
+    clean = λ s e. elim (m.only s e) [
+      | inl a ↦ elim (h.clean s a) [ inl b ↦ inl (m.kept s b) | inr b ↦ inr (record { none = b.none; closed = λ t field. m.stays t (b.closed t field) }) ]
+      | inr a ↦ inl a
+    ];
+    below = λ s a. elim (m.more s a) [ inl b ↦ absurd (empty s b) | inr b ↦ omega (arith, b, lt, m.count) ];
+  },
+  λ s a. elim (m.more s a) [ inl b ↦ absurd (empty s b) | inr b ↦ inl b ],
+) where
   empty : (s : ℕ) → StandsIn [] s → ⊥
   empty s b = let e = b.1 in cc
 
@@ -183,6 +187,7 @@ pub search_ends : (lines : Lines) (seen : List Bool) (first : ℕ) → Searching
 search_ends lines seen first h here = none_holds lines (λ s. slice_get seen s ≡ Some true) (λ s e. (clean s e).none) (λ s t e field. (clean s e).closed t field) first here where
   empty : (s : ℕ) → StandsIn [] s → ⊥
   empty s b = let e = b.1 in cc
+
   clean : (s : ℕ) → slice_get seen s ≡ Some true → IsClean lines seen s
   clean s e = elim (h.clean s e) [ inl a ↦ absurd (empty s a) | inr a ↦ a ]
 

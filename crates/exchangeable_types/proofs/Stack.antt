@@ -1,5 +1,5 @@
 -- What a walk knows, step by step.
-use Rattle.std.proofs.Common.{◌≡◌, ◌≢◌, ℕ, Bool, true, false, zero, suc, ◌+◌, ◌*◌, ◌-◌, ◌<◌, ◌≤◌, List, [], ◌∷◌, ◌++◌, length, Option, Some, None, ◌⊎◌, inl, inr, refl, sym, ap, subst, ◌∙◌, arith, length-append}
+use Rattle.std.proofs.Common.{◌≡◌, ◌≢◌, ℕ, true, false, zero, suc, ◌+◌, ◌*◌, ◌<◌, ◌≤◌, List, [], ◌∷◌, ◌++◌, length, Some, ◌⊎◌, inl, inr, refl, sym, ap, subst, ◌∙◌, arith, length-append}
 use Rattle.std.specs.Prelude.{slice_get, slice_set, Result, Ok, Err, OnOk}
 use Rattle.std.proofs.lemmas.List.{length-set}
 use Rattle.std.proofs.lemmas.Bool.{cases_lt}
@@ -14,7 +14,7 @@ use Rattle.exchangeable_types.specs.declared.walk.Visit.{Visit}
 use Rattle.exchangeable_types.specs.Capped.{CellsOf}
 use Rattle.exchangeable_types.specs.declared.cells.Cells.TheVariants.{Few}
 use Rattle.rl_defs.specs.declared.tables.Kind.{Kind}
-use Rattle.exchangeable_types.specs.Walk.{KnowsCells, IsVisit, Walking, Entered, StartsAt, StaysVisited, WaitsFor, unseen, fresh, is_new, Stepped, Visited, Walked, WalkedTo}
+use Rattle.exchangeable_types.specs.Walk.{IsVisit, Walking, Entered, StartsAt, StaysVisited, WaitsFor, unseen, fresh, is_new, Stepped, Visited, Walked, WalkedTo}
 use Rattle.exchangeable_types.proofs.Starts.{types_at_start}
 use Rattle.exchangeable_types.proofs.Capping.{no_cells}
 
@@ -82,11 +82,13 @@ entered lines states stack g w new visit below = record {
       let at = (w.visits i u e).1 in
       let there : slice_get states u.number ≡ Some New = subst (λ (n : ℕ). slice_get states n ≡ Some New) (sym same) new in
       cc
+
   top_set : (i : ℕ) (u : Visit) → i ≡ length stack → u ≡ g → slice_get (slice_set states g.number (Open (length stack))) u.number ≡ Some (Open i)
   top_set i u at same =
       let set = get_set_same states g.number (Open (length stack)) (get_within states g.number New new) in
       subst (λ (n : ℕ). slice_get (slice_set states g.number (Open (length stack))) u.number ≡ Some (Open n)) (sym at)
       (subst (λ (x : Visit). slice_get (slice_set states g.number (Open (length stack))) x.number ≡ Some (Open (length stack))) (sym same) set)
+
   lower : (i : ℕ) (u : Visit) → i < length stack → slice_get (stack ++ g ∷ []) i ≡ Some u → slice_get stack i ≡ Some u
   lower i u lt e = elim (get_last stack g i u e) [ inl a ↦ a | inr b ↦ absurd (omega (arith, b.0, lt)) ]
 
@@ -113,6 +115,7 @@ went_on lines states stack v v' w same visit = record {
   top i u at is =
       subst (λ (n : ℕ). slice_get states u.number ≡ Some (Open n)) (sym at)
       (subst (λ (n : ℕ). slice_get states n ≡ Some (Open (length stack))) (sym same ∙ sym (ap (λ (x : Visit). x.number) is)) (top_state lines states stack v w))
+
   lower : (i : ℕ) (u : Visit) → i < length stack → slice_get (stack ++ v' ∷ []) i ≡ Some u → slice_get stack i ≡ Some u
   lower i u lt e = elim (get_last stack v' i u e) [ inl a ↦ a | inr b ↦ absurd (omega (arith, b.0, lt)) ]
 

@@ -1,13 +1,10 @@
 -- Where structs begin.
-use Rattle.std.proofs.Common.{◌≡◌, ℕ, zero, suc, ◌+◌, ◌<◌, ◌≤◌, List, [], ◌∷◌, ◌++◌, length, drop, get_or, Option, Some, None, refl, sym, ap, subst, ◌∙◌, arith, add-one}
+use Rattle.std.proofs.Common.{◌≡◌, ℕ, zero, suc, ◌+◌, ◌<◌, ◌≤◌, List, [], ◌∷◌, ◌++◌, length, drop, get_or, Some, refl, sym, ap, subst, ◌∙◌, arith}
 use Rattle.std.specs.Prelude.{slice_get}
-use Rattle.rl_defs.proofs.Places.{get_within}
-use Rattle.std.proofs.lemmas.Option.{slice_get-get_or, slice_get_read}
-use Rattle.rl_defs.specs.declared.bundle.Numbered.{Numbered}
+use Rattle.std.proofs.lemmas.Option.{slice_get-get_or}
 use Rattle.rl_defs.specs.declared.idl.IdlLine.{IdlLine}
 use Rattle.rl_defs.specs.declared.idl.IdlLine.TheVariants as form
-use Rattle.rl_defs.specs.declared.idl.TypeText.{TypeText}
-use Rattle.rl_defs.specs.Interfaces.{Lines, StructText, struct_before, structs_of, fields_of, types_of, types_at, field_types, struct_name, names_by, struct_names}
+use Rattle.rl_defs.specs.Interfaces.{Lines, structs_of, fields_of, types_of, types_at, field_types, struct_name, names_by, struct_names}
 use Rattle.std.specs.Option.{option_to_list}
 use Rattle.exchangeable_types.specs.Numbering.{start_before, starts_from}
 use Rattle.exchangeable_types.specs.Walk.{StartsAt}

@@ -1,12 +1,11 @@
 -- The steps of a walk through the structs of a part.
-use Rattle.std.proofs.Common.{cond, nat_eq, ◌≡◌, ◌≢◌, ℕ, Bool, true, false, zero, suc, ◌+◌, ◌*◌, ◌-◌, ◌<◌, ◌≤◌, List, [], ◌∷◌, ◌++◌, length, drop, get_or, Option, Some, None, ◌⊎◌, inl, inr, refl, sym, ap, subst, ◌∙◌, arith, add-one, append_assoc, length-append}
-use Rattle.std.specs.Prelude.{slice_get, slice_set, unwrap_or}
+use Rattle.std.proofs.Common.{cond, nat_eq, ◌≡◌, ℕ, Bool, true, false, suc, ◌+◌, ◌<◌, List, [], ◌∷◌, ◌++◌, length, drop, get_or, Option, Some, None, refl, sym, ap, subst, ◌∙◌, arith, append_assoc}
+use Rattle.std.specs.Prelude.{slice_get, unwrap_or}
 use Rattle.std.specs.Option.{option_map}
 use Rattle.std.specs.Cmp.Lexicographic.{pointwise}
-use Rattle.std.proofs.lemmas.Option.{slice_get-get_or, slice_get_read}
-use Rattle.std.proofs.lemmas.List.{length-set, append-nil}
-use Rattle.rl_defs.proofs.Places.{get_front, get_seam, get_within, get_last, get_set_same, get_set_other, get_set, drop_at, drop_past}
-use Rattle.rl_defs.proofs.HoldingLaws.{reaches_more, reaches_field, endless_by_field}
+use Rattle.std.proofs.lemmas.Option.{slice_get_read}
+use Rattle.std.proofs.lemmas.List.{append-nil}
+use Rattle.rl_defs.proofs.Places.{get_seam, get_within, drop_at, drop_past}
 use Rattle.rl_defs.specs.declared.bundle.Numbered.{Numbered}
 use Rattle.rl_defs.specs.declared.idl.IdlLine.{IdlLine}
 use Rattle.rl_defs.specs.declared.idl.IdlLine.TheVariants as form
@@ -15,15 +14,12 @@ use Rattle.rl_defs.specs.Interfaces.{Lines, FieldText, fields_of, field_before, 
 use Rattle.rl_defs.specs.declared.idl.Base.{Base}
 use Rattle.rl_defs.specs.declared.idl.Base.TheVariants as base
 use Rattle.rl_defs.specs.Flattening.{struct_held, unless_refused, base_struct, is_refused}
-use Rattle.rl_defs.specs.Holding.{HasField, Reaches, IsEndless}
 use Rattle.exchangeable_types.specs.declared.cells.Cells.{Cells}
 use Rattle.exchangeable_types.specs.declared.walk.State.{State}
-use Rattle.exchangeable_types.specs.declared.walk.State.TheVariants.{New, Open, Endless, Ended}
-use Rattle.exchangeable_types.specs.declared.walk.Visit.{Visit}
 use Rattle.exchangeable_types.specs.Numbering.{field_type, line_type}
 use Rattle.exchangeable_types.specs.Steps.{HoldsUnended}
 use Rattle.exchangeable_types.specs.Capped.{CellsOf}
-use Rattle.exchangeable_types.specs.Walk.{KnowsCells, IsVisit, Walking, StaysVisited, WaitsFor}
+use Rattle.exchangeable_types.specs.Walk.{IsVisit, WaitsFor}
 
 pub read_state : (states : List State) (s : ℕ) (x : State) → s < length states → x ≡ get_or states s x → slice_get states s ≡ Some x
 read_state states s x lt e = slice_get_read states (length states) s x refl lt e

@@ -1,12 +1,11 @@
 -- What the steps of a walk answer.
-use Rattle.std.specs.Prelude.{◌≡◌, ℕ, ◌<◌, List, [], ◌∷◌, ◌++◌, Some, slice_get, length}
+use Rattle.std.specs.Prelude.{◌≡◌, ℕ, List, [], ◌∷◌, ◌++◌, Some, slice_get}
 use Rattle.rl_defs.specs.declared.idl.TypeText.{TypeText}
 use Rattle.rl_defs.specs.Interfaces.{Lines, types_at}
 use Rattle.rl_defs.specs.Flattening.{struct_held}
 use Rattle.exchangeable_types.specs.declared.cells.Cells.{Cells}
 use Rattle.exchangeable_types.specs.declared.walk.State.{State}
 use Rattle.exchangeable_types.specs.declared.walk.State.TheVariants.{Ended}
-use Rattle.exchangeable_types.specs.declared.walk.Visit.{Visit}
 use Rattle.exchangeable_types.specs.declared.walk.Stop.{Stop}
 use Rattle.exchangeable_types.specs.declared.walk.Stop.TheVariants as stop
 use Rattle.exchangeable_types.specs.declared.walk.Added.{Added}

@@ -1,9 +1,8 @@
 -- What a walk through the structs of a part knows.
-use Rattle.std.specs.Prelude.{◌≡◌, ◌≢◌, ℕ, Bool, true, false, ◌+◌, ◌*◌, ◌<◌, List, [], ◌∷◌, ◌++◌, Some, slice_get, slice_set, length, drop}
+use Rattle.std.specs.Prelude.{◌≡◌, ℕ, Bool, true, false, ◌+◌, ◌*◌, ◌<◌, List, [], ◌∷◌, ◌++◌, Some, slice_get, slice_set, length, drop}
 use Rattle.rl_defs.specs.declared.idl.TypeText.{TypeText}
 use Rattle.rl_defs.specs.declared.idl.IdlLine.TheVariants as form
 use Rattle.rl_defs.specs.Interfaces.{Lines, structs_of, fields_of, types_of, types_at, struct_names}
-use Rattle.rl_defs.specs.Flattening.{struct_held}
 use Rattle.rl_defs.specs.Holding.{HasField, Reaches, IsEndless}
 use Rattle.exchangeable_types.specs.declared.cells.Cells.{Cells}
 use Rattle.exchangeable_types.specs.declared.walk.State.{State}

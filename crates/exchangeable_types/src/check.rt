@@ -71,7 +71,11 @@ fn first_bad(lines: &[Numbered<IdlLine>]) -> Option<u32>
 }
 
 // The earlier of the two refusals, or the types where there is none.
-fn earlier(idl: &Idl, bad: Option<u32>, rows: Result<List<StructRow>, LoadFault>) -> Result<Types, LoadFault>
+fn earlier(
+    idl: &Idl,
+    bad: Option<u32>,
+    rows: Result<List<StructRow>, LoadFault>,
+) -> Result<Types, LoadFault>
     requires bad { IsFirstBad idl.now.lines bad }
     requires rows { Answers (FailsStructs idl.now.lines) (AllRows idl.now.lines) rows }
     ensures { Answers (FailsTypes idl.now) (λ types. StructRows idl.now types.structs) result }

@@ -6,6 +6,7 @@ pub mod check;
 pub mod part;
 pub mod rows;
 pub mod search;
+#[cfg(test)]
+mod tests;
 pub mod types;
 pub mod walk;
-

@@ -39,7 +39,12 @@ fn head_of(part: &Part, number: u32) -> Head
 }
 
 // Whether one of the kinds is an `RRef` of a struct that holds an `RRef`.
-fn is_nested(alloc: Global, part: &Part, seen: &mut Vec<bool>, kinds: &[Kind]) -> Result<bool, Memory>
+fn is_nested(
+    alloc: Global,
+    part: &Part,
+    seen: &mut Vec<bool>,
+    kinds: &[Kind],
+) -> Result<bool, Memory>
     requires { Searching part.now.lines.now seen.old.items [] }
     ensures { IfOk result (IsNested part.now.lines.now kinds.now seen.new.items) }
 {
@@ -52,7 +57,12 @@ fn is_nested(alloc: Global, part: &Part, seen: &mut Vec<bool>, kinds: &[Kind]) -
 }
 
 // The same of one kind. A struct that isn't there has no fields.
-fn is_nested_kind(alloc: Global, part: &Part, seen: &mut Vec<bool>, kind: Kind) -> Result<bool, Memory>
+fn is_nested_kind(
+    alloc: Global,
+    part: &Part,
+    seen: &mut Vec<bool>,
+    kind: Kind,
+) -> Result<bool, Memory>
     requires { Searching part.now.lines.now seen.old.items [] }
     ensures { IfOk result (IsNested part.now.lines.now (kind ∷ []) seen.new.items) }
 {
@@ -76,7 +86,13 @@ pub fn refused(line: u32, rule: u8) -> LoadFault
 }
 
 // The row of a struct, or the lowest rule that refuses it.
-fn row_of(alloc: Global, part: &Part, seen: &mut Vec<bool>, number: u32, state: State) -> Result<StructRow, LoadFault>
+fn row_of(
+    alloc: Global,
+    part: &Part,
+    seen: &mut Vec<bool>,
+    number: u32,
+    state: State,
+) -> Result<StructRow, LoadFault>
     requires below { number < length (struct_names part.now.lines.now) }
     requires known { StateAt part.now.lines.now number state }
     requires searching { Searching part.now.lines.now seen.old.items [] }
@@ -109,7 +125,14 @@ fn take(states: &mut Vec<State>, number: u32) -> State
 }
 
 // Puts the row of the next struct last, or says which rule refuses the struct.
-fn next_row(alloc: Global, part: &Part, states: &mut Vec<State>, seen: &mut Vec<bool>, rows: &mut List<StructRow>, number: u32) -> Result<(), LoadFault>
+fn next_row(
+    alloc: Global,
+    part: &Part,
+    states: &mut Vec<State>,
+    seen: &mut Vec<bool>,
+    rows: &mut List<StructRow>,
+    number: u32,
+) -> Result<(), LoadFault>
     requires below { number < length (struct_names part.now.lines.now) }
     requires rowing { Rowing part.now.lines.now states.old.items seen.old.items rows.old number }
     ensures ok { OnOk result (Rowing part.now.lines.now states.new.items seen.new.items rows.new (number + 1)) }

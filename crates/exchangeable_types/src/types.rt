@@ -172,9 +172,11 @@ pub fn has_bad_type(line: &IdlLine) -> bool
 {
     match line {
         IdlLine::Field(_, ty) => is_bad_field(ty),
-        IdlLine::Method { params, result: outcome, .. } => {
-            has_bad_param(params.as_slice()) || has_bad_result(result_types(outcome))
-        }
+        IdlLine::Method {
+            params,
+            result: outcome,
+            ..
+        } => { has_bad_param(params.as_slice()) || has_bad_result(result_types(outcome)) }
         _ => false,
     }
 }

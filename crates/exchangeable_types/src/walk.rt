@@ -123,7 +123,13 @@ fn push(stack: &mut Vec<Visit>, visit: Visit) -> Result<(), Memory>
 }
 
 // Begins the visit of a new struct on top of the stack.
-fn enter(alloc: Global, part: &Part, states: &mut Vec<State>, stack: &mut Vec<Visit>, number: u32) -> Result<(), Memory>
+fn enter(
+    alloc: Global,
+    part: &Part,
+    states: &mut Vec<State>,
+    stack: &mut Vec<Visit>,
+    number: u32,
+) -> Result<(), Memory>
     requires walking { Walking part.now.lines.now states.old.items stack.old.items }
     requires new { slice_get states.old.items number ≡ Some State.New }
     requires below { (i : ℕ) (v : VisitValue) → slice_get stack.old.items i ≡ Some v → Reaches part.now.lines.now v.number number }
@@ -154,7 +160,14 @@ fn is_new(state: &State) -> bool
 }
 
 // A visit waits for a struct: that one is entered, or it is found again and never ends.
-fn wait(alloc: Global, part: &Part, states: &mut Vec<State>, stack: &mut Vec<Visit>, visit: Visit, held: u32) -> Result<(), Memory>
+fn wait(
+    alloc: Global,
+    part: &Part,
+    states: &mut Vec<State>,
+    stack: &mut Vec<Visit>,
+    visit: Visit,
+    held: u32,
+) -> Result<(), Memory>
     requires walking { Walking part.now.lines.now states.old.items (stack.old.items ++ visit ∷ []) }
     requires waits { WaitsFor part.now.lines.now states.old.items visit.number held }
     ensures { OnOk result (Stepped part.now.lines.now states.old.items states.new.items stack.old.items stack.new.items) }
@@ -168,7 +181,13 @@ fn wait(alloc: Global, part: &Part, states: &mut Vec<State>, stack: &mut Vec<Vis
 }
 
 // Goes on with the visit that was on top of the stack.
-fn step(alloc: Global, part: &Part, states: &mut Vec<State>, stack: &mut Vec<Visit>, visit: Visit) -> Result<(), Memory>
+fn step(
+    alloc: Global,
+    part: &Part,
+    states: &mut Vec<State>,
+    stack: &mut Vec<Visit>,
+    visit: Visit,
+) -> Result<(), Memory>
     requires { Walking part.now.lines.now states.old.items (stack.old.items ++ visit ∷ []) }
     ensures { OnOk result (Stepped part.now.lines.now states.old.items states.new.items stack.old.items stack.new.items) }
 {
@@ -182,7 +201,12 @@ fn step(alloc: Global, part: &Part, states: &mut Vec<State>, stack: &mut Vec<Vis
 }
 
 // Visits a new struct, and all that it reaches.
-fn visit_from(alloc: Global, part: &Part, states: &mut Vec<State>, number: u32) -> Result<(), Memory>
+fn visit_from(
+    alloc: Global,
+    part: &Part,
+    states: &mut Vec<State>,
+    number: u32,
+) -> Result<(), Memory>
     requires walking { Walking part.now.lines.now states.old.items [] }
     requires new { slice_get states.old.items number ≡ Some State.New }
     ensures { OnOk result (Visited part.now.lines.now states.old.items states.new.items number) }
@@ -210,7 +234,12 @@ fn all_new(alloc: Global, count: usize) -> Result<Vec<State>, Memory>
 }
 
 // Visits the struct of this number, unless it was visited.
-fn visit_next(alloc: Global, part: &Part, states: &mut Vec<State>, number: u32) -> Result<(), Memory>
+fn visit_next(
+    alloc: Global,
+    part: &Part,
+    states: &mut Vec<State>,
+    number: u32,
+) -> Result<(), Memory>
     requires walked { WalkedTo part.now.lines.now states.old.items number }
     requires below { number < length (struct_names part.now.lines.now) }
     ensures { OnOk result (WalkedTo part.now.lines.now states.new.items (number + 1)) }

@@ -1,5 +1,5 @@
 -- Paths through fields outside RRef.
-use Rattle.std.proofs.Common.{◌≡◌, ℕ, List, [], ◌∷◌, ◌++◌, ◌⊎◌, inl, inr}
+use Rattle.std.proofs.Common.{ℕ, List, [], ◌∷◌, ◌++◌, inl, inr}
 use Rattle.rl_defs.specs.Interfaces.{Lines}
 use Rattle.rl_defs.specs.Holding.{HasField, Leads, Reaches, IsEndless, HasRRef, HoldsRRef}
 

@@ -1,11 +1,8 @@
 -- Rules 20 to 23: the methods that a proxy can stand for.
 use Rattle.std.specs.Prelude.{◌≡◌, ℕ, ◌+◌, ◌<◌, ◌⊎◌, Bool, true, false, List, [], ◌∷◌, Some, slice_get, length, IsTrue}
 use Rattle.std.specs.List.{list_any}
-use Rattle.rl_defs.specs.declared.bundle.Numbered.{Numbered}
 use Rattle.rl_defs.specs.declared.idl.Idl.{Idl}
-use Rattle.rl_defs.specs.declared.idl.IdlLine.{IdlLine}
 use Rattle.rl_defs.specs.declared.idl.IdlLine.TheVariants as form
-use Rattle.rl_defs.specs.declared.idl.TypeText.{TypeText}
 use Rattle.rl_defs.specs.declared.idl.Param.{Param}
 use Rattle.rl_defs.specs.declared.idl.ResultText.{ResultText}
 use Rattle.rl_defs.specs.declared.idl.ResultText.TheVariants as results

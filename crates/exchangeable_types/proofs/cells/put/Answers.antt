@@ -1,5 +1,4 @@
-use Rattle.std.proofs.Common.{◌≡◌, ◌<◌, ◌≤◌, ◌+◌, ◌*◌, List, length, subst, arith}
-use Rattle.rl_defs.specs.declared.tables.Kind.{Kind}
+use Rattle.std.proofs.Common.{◌<◌, ◌≤◌, ◌+◌, ◌*◌, length, subst, arith}
 use Rattle.exchangeable_types.specs.declared.cells.Cells.{Cells}
 use Rattle.exchangeable_types.specs.Capped.{IsCapped}
 use Rattle.exchangeable_types.proofs.Capping.{over_more, few_more}

@@ -1,5 +1,4 @@
-use Rattle.std.proofs.Common.{◌≡◌, Some, length, arith, refl, sym, ◌∙◌}
-use Rattle.std.specs.Prelude.{slice_get}
+use Rattle.std.proofs.Common.{length, arith, refl, sym, ◌∙◌}
 use Rattle.std.proofs.lemmas.Option.{slice_get_read}
 use Rattle.exchangeable_types.proofs.Checks.{good_more, good_all, bad_found}
 use Rattle.exchangeable_types.proofs.check.first_bad.Goals as goal

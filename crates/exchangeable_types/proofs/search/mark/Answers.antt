@@ -1,4 +1,4 @@
-use Rattle.std.proofs.Common.{◌≡◌, ◌<◌, List, Bool, true, false, Some, length, arith, refl, sym, ap, ◌∙◌, get_or}
+use Rattle.std.proofs.Common.{◌<◌, List, Bool, false, Some, length, arith, refl, sym, ap, ◌∙◌, get_or}
 use Rattle.std.proofs.lemmas.Option.{slice_get-get_or}
 use Rattle.exchangeable_types.proofs.Searches.{marks_none, marks_one}
 use Rattle.exchangeable_types.proofs.search.mark.Goals as goal

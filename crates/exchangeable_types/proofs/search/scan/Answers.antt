@@ -1,5 +1,4 @@
-use Rattle.std.proofs.Common.{◌≡◌, ◌<◌, length, arith, sym, ◌∙◌}
-use Rattle.rl_defs.specs.Flattening.{struct_held}
+use Rattle.std.proofs.Common.{arith, sym, ◌∙◌}
 use Rattle.exchangeable_types.proofs.Walks.{held_within, field_within}
 use Rattle.exchangeable_types.proofs.Searches.{scan_number, scan_begins, scan_found, scan_passes, scan_marks, scan_ends}
 use Rattle.exchangeable_types.proofs.search.scan.Goals as goal
@@ -35,7 +34,7 @@ fields-preserved c = elim c.match-struct_held.branch [
       let lt = held_within c.args.part.now.lines.now c.in-Some.ty.now w.in-Some-struct_held.held (omega (arith, scan_number c.args.part.now.lines.now c.args.seen.now.items c.args.todo.now.items c.args.number c.requires)) (sym w.in-Some-struct_held.ensures) in
       rw (w.seen-is, w.todo-is) (scan_marks c.args.part.now.lines.now c.args.seen.now.items c.fields.seen.items w.mark.new.seen.items c.args.todo.now.items c.fields.todo.items w.mark.new.todo.items c.args.number c.fields.at w.in-Some-struct_held.held c.in-Some.ty.now c.fields.invariant (sym c.in-Some.ensures) (sym c.holds_rref.ensures ∙ c.if-holds_rref.false) (sym w.in-Some-struct_held.ensures) (omega (arith, lt, c.fields.invariant.count)) w.in_ok-mark.ensures)
   | in_default-struct_held w ↦ rw (w.seen-is, w.todo-is) (scan_passes c.args.part.now.lines.now c.args.seen.now.items c.fields.seen.items c.args.todo.now.items c.fields.todo.items c.args.number c.fields.at c.in-Some.ty.now c.fields.invariant (sym c.in-Some.ensures) (sym c.holds_rref.ensures ∙ c.if-holds_rref.false) (sym w.in_default-struct_held.ensures))
-  ]
+]
 
 pub returns : goal.returns
 returns c = scan_ends c.args.part.now.lines.now c.args.seen.now.items c.fields.seen.items c.args.todo.now.items c.fields.todo.items c.args.number c.fields.at c.fields.invariant (sym c.in_default.ensures)

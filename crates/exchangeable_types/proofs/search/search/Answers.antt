@@ -1,4 +1,4 @@
-use Rattle.std.proofs.Common.{◌≡◌, ◌<◌, ◌∷◌, ◌++◌, [], List, ℕ, Bool, true, false, length, arith, sym, subst, rules}
+use Rattle.std.proofs.Common.{◌≡◌, [], List, ℕ, Bool, arith, subst}
 use Rattle.std.proofs.lemmas.Grind.{common_steps}
 use Rattle.exchangeable_types.specs.Search.{Searching, AllLead, Marks, IsScan}
 use Rattle.exchangeable_types.proofs.Searches.{search_begins, search_found, search_ends}

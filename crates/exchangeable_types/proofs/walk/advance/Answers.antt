@@ -1,5 +1,4 @@
-use Rattle.std.proofs.Common.{◌≡◌, ◌<◌, refl, sym, subst, length, arith}
-use Rattle.rl_defs.specs.declared.idl.TypeText.{TypeText}
+use Rattle.std.proofs.Common.{refl, sym, subst, arith}
 use Rattle.exchangeable_types.specs.declared.cells.Cells.{Cells}
 use Rattle.exchangeable_types.specs.declared.walk.Added.{Added}
 use Rattle.exchangeable_types.specs.Walk.{IsVisit}
@@ -14,9 +13,13 @@ add-requires-clause-declared c = λ t e.
 
 pub returns-in-Waits : goal.returns-in-Waits
 returns-in-Waits c =
-    let added = subst (λ (x : Added). IsAdded c.args.part.now.lines.now c.args.states.now c.fields.cells c.in-Some.ty.now x) c.in-Waits.is c.in_ok-more.ensures in
-    (refl, (subst (λ (x : Cells). IsVisit c.args.part.now.lines.now (record { number = c.args.visit.number; at = c.fields.at; cells = x })) (sym added.0) c.fields.invariant.visit,
-    visit_waits c.args.part.now.lines.now c.args.states.now c.args.visit.number c.fields.at c.fields.cells c.in-Some.ty.now c.in-Waits.held c.fields.invariant.visit (omega (arith, c.requires.below, c.requires.count)) c.requires.count (sym c.in-Some.ensures) added.1))
+    let added = subst (λ (x : Added). IsAdded c.args.part.now.lines.now c.args.states.now c.fields.cells c.in-Some.ty.now x) c.in-Waits.is c.in_ok-more.ensures in (
+      refl,
+      (
+        subst (λ (x : Cells). IsVisit c.args.part.now.lines.now (record { number = c.args.visit.number; at = c.fields.at; cells = x })) (sym added.0) c.fields.invariant.visit,
+        visit_waits c.args.part.now.lines.now c.args.states.now c.args.visit.number c.fields.at c.fields.cells c.in-Some.ty.now c.in-Waits.held c.fields.invariant.visit (omega (arith, c.requires.below, c.requires.count)) c.requires.count (sym c.in-Some.ensures) added.1,
+      ),
+    )
 
 pub overflow_add-at : goal.overflow_add-at
 overflow_add-at c =

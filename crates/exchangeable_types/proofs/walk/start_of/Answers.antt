@@ -1,4 +1,4 @@
-use Rattle.std.proofs.Common.{◌≡◌, ◌<◌, ◌∙◌, ap, length, arith, List, ℕ}
+use Rattle.std.proofs.Common.{◌∙◌, arith}
 use Rattle.exchangeable_types.proofs.Starts.{starts_count, starts_read}
 use Rattle.rl_defs.proofs.Places.{get_within}
 use Rattle.exchangeable_types.proofs.walk.start_of.Goals as goal

@@ -1,5 +1,4 @@
-use Rattle.std.proofs.Common.{◌≡◌, ◌<◌, ℕ, List, length, arith, ap, subst}
-use Rattle.exchangeable_types.specs.declared.walk.State.{State}
+use Rattle.std.proofs.Common.{length, arith, ap, subst}
 use Rattle.exchangeable_types.specs.declared.walk.Stop.{Stop}
 use Rattle.exchangeable_types.specs.Steps.{IsStop}
 use Rattle.exchangeable_types.proofs.Stack.{top_within, stepped_whole, went_on}

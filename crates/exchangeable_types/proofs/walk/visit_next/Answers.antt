@@ -1,4 +1,4 @@
-use Rattle.std.proofs.Common.{◌≡◌, ◌<◌, length, arith, sym, ap, ◌∙◌, Some, List, get_or}
+use Rattle.std.proofs.Common.{◌<◌, length, arith, sym, ap, ◌∙◌, Some, List, get_or}
 use Rattle.exchangeable_types.specs.declared.walk.State.{State}
 use Rattle.exchangeable_types.proofs.Walks.{read_state}
 use Rattle.exchangeable_types.proofs.Stack.{walked_more, walked_old, is_new_true, ok_then}

@@ -1,9 +1,7 @@
-use Rattle.std.proofs.Common.{◌≡◌, ◌∷◌, ◌++◌, [], List, Some, sym, subst, ◌∙◌, ap}
+use Rattle.std.proofs.Common.{◌≡◌, List, Some, sym, subst, ◌∙◌, ap}
 use Rattle.std.specs.Prelude.{slice_get}
-use Rattle.rl_defs.specs.Holding.{Reaches}
 use Rattle.exchangeable_types.specs.declared.walk.State.{State}
 use Rattle.exchangeable_types.specs.declared.walk.Visit.{Visit}
-use Rattle.exchangeable_types.specs.Walk.{Walking, is_new}
 use Rattle.exchangeable_types.proofs.Walks.{read_state}
 use Rattle.exchangeable_types.proofs.Stack.{top_within, stepped_endless, stepped_in, leads_on, is_new_true, ok_then}
 use Rattle.exchangeable_types.proofs.walk.wait.Goals as goal

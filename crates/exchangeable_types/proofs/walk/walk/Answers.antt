@@ -1,6 +1,6 @@
 use Rattle.std.proofs.Common.{◌∙◌}
 use Rattle.exchangeable_types.proofs.Starts.{starts_count}
-use Rattle.exchangeable_types.proofs.Stack.{walked_none, walked_all}
+use Rattle.exchangeable_types.proofs.Stack.{walked_none}
 use Rattle.exchangeable_types.proofs.walk.walk.Goals as goal
 
 pub structs-init : goal.structs-init
