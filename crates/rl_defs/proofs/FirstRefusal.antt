@@ -1,9 +1,10 @@
 -- Phases one after the other, and lines one after the other.
-use Rattle.std.proofs.Common.{◌≡◌, ℕ, ◌≤◌, ◌⊎◌, inl, inr, subst, Result, Ok, Err, sym, ◌+◌, arith}
+use Rattle.std.proofs.Common.{◌≡◌, ℕ, ◌<◌, ◌≤◌, ◌⊎◌, inl, inr, subst, Result, Ok, Err, refl, sym, ◌+◌, arith}
 use Rattle.std.proofs.lemmas.Bool.{cases_lt, cases_order}
 use Rattle.rl_defs.specs.declared.LoadFault.{LoadFault}
 use Rattle.rl_defs.specs.declared.LoadFault.TheVariants.{Refused, Memory}
-use Rattle.rl_defs.specs.Refusals.{Failing, IsFirst, Nowhere, Answers, Then}
+use Rattle.rl_defs.specs.declared.Refusal.{Refusal}
+use Rattle.rl_defs.specs.Refusals.{Failing, IsFirst, Nowhere, Answers, Then, NotAfter}
 
 -- a refusal of the first phase is the first of both
 pub first_stops : {X : Type 0} (F : Failing) (V : X → Type 0) (G : X → Failing) (line rule : ℕ) → IsFirst F line rule → IsFirst (Then F V G) line rule

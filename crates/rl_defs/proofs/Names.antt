@@ -1,9 +1,9 @@
 -- A name's bytes at the front of an array.
-use Rattle.std.proofs.Common.{◌≡◌, ℕ, ◌-◌, ◌≤◌, Bool, true, false, not, ◌&&◌, List, ◌++◌, length, take, drop, refl, ap, arith, length-append}
+use Rattle.std.proofs.Common.{◌≡◌, ℕ, ◌-◌, ◌+◌, ◌≤◌, Bool, true, false, not, ◌&&◌, List, ◌++◌, length, take, drop, refl, sym, ap, ◌∙◌, arith, length-append}
 use Rattle.std.specs.Prelude.{IsTrue, replicate}
 use Rattle.std.proofs.lemmas.List.{drop-replicate, length-replicate}
 use Rattle.std.proofs.Math.Seq.{take-append_seam}
-use Rattle.rl_defs.specs.Padded.{padded, KeepsName}
+use Rattle.rl_defs.specs.Padded.{padded, Padded, KeepsName}
 use Rattle.rl_defs.specs.Words.{is_name}
 
 -- the bytes copied to the front of zeros

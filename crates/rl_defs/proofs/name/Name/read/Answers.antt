@@ -1,4 +1,4 @@
-use Rattle.std.proofs.Common.{◌≡◌, ◌≤◌, arith, length, sym, true, false}
+use Rattle.std.proofs.Common.{◌≡◌, ◌≤◌, arith, length, sym, ◌∙◌, true, false}
 use Rattle.std.proofs.lemmas.Grind.{common_steps}
 use Rattle.rl_defs.specs.Words.{is_word, is_reserved}
 use Rattle.rl_defs.proofs.Names.{kept, named}
