@@ -1,3 +1,6 @@
 pub mod Names
 pub mod FirstRefusal
 pub mod WorkedRun
+pub mod Places
+pub mod FlatteningLaws
+pub mod HoldingLaws

@@ -20,3 +20,9 @@ pub mod IdlForms
 pub mod IdlParts
 pub mod Canonical
 pub mod IdlCanonical
+pub mod Interfaces
+pub mod Flattening
+pub mod Holding
+pub mod TypeRules
+pub mod NameRules
+pub mod MethodRules

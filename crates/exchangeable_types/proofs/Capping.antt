@@ -1,0 +1,76 @@
+-- Kinds that are put behind others, up to a limit.
+use Rattle.std.proofs.Common.{◌≡◌, ℕ, zero, suc, ◌+◌, ◌*◌, ◌<◌, ◌≤◌, min, List, [], ◌∷◌, ◌++◌, length, inl, inr, refl, sym, ap, subst, ◌∙◌, arith, length-append}
+use Rattle.std.proofs.Math.Nat.{mul-le-mul_left}
+use Rattle.std.proofs.lemmas.Bool.{cases_lt}
+use Rattle.std.proofs.lemmas.List.{append-nil}
+use Rattle.std.specs.Option.{option_to_list}
+use Rattle.std.specs.Prelude.{Option, Some, None}
+use Rattle.rl_defs.specs.declared.tables.Kind.{Kind}
+use Rattle.rl_defs.specs.declared.idl.TypeText.{TypeText}
+use Rattle.rl_defs.specs.Interfaces.{Lines, types_at}
+use Rattle.rl_defs.specs.Flattening.{copies, times_of, struct_held, kind_held, Flattens, Ends}
+use Rattle.rl_defs.proofs.FlatteningLaws.{length-copies, copies-nil, flattens_plain, flattens_fields}
+use Rattle.exchangeable_types.specs.declared.cells.Cells.{Cells}
+use Rattle.exchangeable_types.specs.declared.cells.Cells.TheVariants.{Few}
+use Rattle.exchangeable_types.specs.Capped.{IsCapped, CellsOf}
+
+-- where the counted copies are too many, so are all
+pub over_more : (limit t n : ℕ) (list before kinds : List Kind) → t ≡ min 513 n → list ≡ before → limit < length list + length kinds * t → limit < length (before ++ copies n kinds)
+over_more limit t n list before kinds e same over =
+    let le : t ≤ n = omega arith in
+    let len : length list ≡ length before = ap length same in
+    omega (arith, mul-le-mul_left (length kinds) le, length-append before (copies n kinds), length-copies n kinds)
+
+-- where the counted copies are few, they are all
+pub same_copies : (limit t n : ℕ) (kinds : List Kind) → limit ≤ 512 → t ≡ min 513 n → length kinds * t ≤ limit → copies t kinds ≡ copies n kinds
+same_copies limit t n [] low e few = copies-nil t ∙ sym (copies-nil n)
+same_copies limit t n (k ∷ ks) low e few = elim (cases_lt n 513) [
+  | inl lt ↦ let same : t ≡ n = omega arith in ap (λ (m : ℕ). copies m (k ∷ ks)) same
+  | inr ge ↦ let all : t ≡ 513 = omega arith in absurd (omega (arith, ap (λ (m : ℕ). length (k ∷ ks) * m) all))
+]
+
+pub few_more : (limit t n : ℕ) (list before kinds more : List Kind) → limit ≤ 512 → t ≡ min 513 n → list ≡ before → length list + length kinds * t ≤ limit → more ≡ list ++ copies t kinds → (more ≡ before ++ copies n kinds) × (length (before ++ copies n kinds) ≤ limit)
+few_more limit t n list before kinds more low e same few is =
+    let room : length kinds * t ≤ limit = omega arith in
+    let copied = same_copies limit t n kinds low e room in
+    let all : list ++ copies t kinds ≡ before ++ copies n kinds = ap (λ (xs : List Kind). xs ++ copies t kinds) same ∙ ap (λ (xs : List Kind). before ++ xs) copied in
+    (is ∙ all, omega (arith, ap length all, length-append list (copies t kinds), length-copies t kinds))
+
+-- no copy
+pub none_more : (limit t n : ℕ) (before kinds : List Kind) (cells : Cells) → t ≡ min 513 n → t ≡ 0 → IsCapped limit before cells → IsCapped limit (before ++ copies n kinds) cells
+none_more limit t zero before kinds cells e z h = subst (λ (xs : List Kind). IsCapped limit xs cells) (sym (append-nil before)) h
+none_more limit t (suc n) before kinds cells e z h = absurd (omega arith)
+
+-- one copy of too many is too many
+pub many_more : (t n : ℕ) (before kinds : List Kind) → t ≡ min 513 n → 0 < t → 512 < length kinds → 512 < length (before ++ copies n kinds)
+many_more t zero before kinds e some many = absurd (omega arith)
+many_more t (suc n) before kinds e some many = omega (arith, length-append before (kinds ++ copies n kinds), length-append kinds (copies n kinds))
+
+-- one more type that holds no struct
+pub cells_plain : (lines : Lines) (limit : ℕ) (types : List TypeText) (ty : TypeText) (cells more : Cells) → struct_held lines ty ≡ None → ((before : List Kind) → IsCapped limit before cells → IsCapped limit (before ++ copies (times_of ty.wraps) (option_to_list (kind_held lines ty))) more) → CellsOf lines limit types cells → CellsOf lines limit (types ++ ty ∷ []) more
+cells_plain lines limit types ty cells more plain puts h = record {
+  kinds = h.kinds ++ copies (times_of ty.wraps) (option_to_list (kind_held lines ty));
+  flat = flattens_plain lines types ty h.kinds plain h.flat;
+  capped = puts h.kinds h.capped;
+}
+
+-- one more type that holds a struct by value
+pub cells_fields : (lines : Lines) (limit : ℕ) (types : List TypeText) (ty : TypeText) (s : ℕ) (inner : List Kind) (cells more : Cells) → struct_held lines ty ≡ Some s → Flattens lines (types_at lines s) inner → ((before : List Kind) → IsCapped limit before cells → IsCapped limit (before ++ copies (times_of ty.wraps) inner) more) → CellsOf lines limit types cells → CellsOf lines limit (types ++ ty ∷ []) more
+cells_fields lines limit types ty s inner cells more held flat puts h = record {
+  kinds = h.kinds ++ copies (times_of ty.wraps) inner;
+  flat = flattens_fields lines types ty s h.kinds inner held flat h.flat;
+  capped = puts h.kinds h.capped;
+}
+
+pub no_cells : (lines : Lines) (limit : ℕ) (list : List Kind) → list ≡ [] → CellsOf lines limit [] (Few list)
+no_cells lines limit list e = record { kinds = []; flat = Ends refl refl; capped = (e, omega arith) }
+
+-- a type with no kind and no struct puts nothing behind
+pub nothing_more : (lines : Lines) (limit n : ℕ) (ty : TypeText) (before : List Kind) (cells : Cells) → kind_held lines ty ≡ None → IsCapped limit before cells → IsCapped limit (before ++ copies n (option_to_list (kind_held lines ty))) cells
+nothing_more lines limit n ty before cells none h =
+    let same : before ++ copies n (option_to_list (kind_held lines ty)) ≡ before = ap (λ (o : Option Kind). before ++ copies n (option_to_list o)) none ∙ ap (λ (xs : List Kind). before ++ xs) (copies-nil n) ∙ append-nil before in
+    subst (λ (xs : List Kind). IsCapped limit xs cells) (sym same) h
+
+-- a type with a kind puts copies of it behind
+pub kind_more : (lines : Lines) (limit n : ℕ) (ty : TypeText) (k : Kind) (before : List Kind) (more : Cells) → kind_held lines ty ≡ Some k → IsCapped limit (before ++ copies n (k ∷ [])) more → IsCapped limit (before ++ copies n (option_to_list (kind_held lines ty))) more
+kind_more lines limit n ty k before more some h = subst (λ (o : Option Kind). IsCapped limit (before ++ copies n (option_to_list o)) more) (sym some) h

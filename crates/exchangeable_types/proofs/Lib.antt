@@ -1,0 +1,10 @@
+pub mod Naming
+pub mod Counting
+pub mod Capping
+pub mod Walks
+pub mod Stack
+pub mod Starts
+pub mod Searches
+pub mod RowLaws
+pub mod RowSteps
+pub mod Checks

@@ -1,0 +1,183 @@
+//! The rows of structs, in the order of the text.
+ghost use Rattle.std.specs.Prelude.{◌≡◌, ℕ, ◌+◌, ◌++◌, ◌∷◌, [], ◌<◌, ◌≤◌, Some, length, slice_get, slice_set, IfOk, IfErr, OnOk, Err};
+ghost use Rattle.rl_defs.specs.Interfaces.{Rises, struct_names};
+ghost use Rattle.rl_defs.specs.Refusals.{Answers};
+ghost use Rattle.exchangeable_types.specs.Search.{Searching};
+ghost use Rattle.exchangeable_types.specs.Walk.{Walked};
+ghost use Rattle.exchangeable_types.specs.Rows.{StateAt, IsHead, IsNested, IsRowAnswer, AllRows, FailsStructs, Rowing};
+
+use crate::cells::Cells;
+use crate::part::{Part, struct_name};
+use crate::search::search;
+use crate::walk::{State, count, start_of, walk};
+use rl_defs::list::List;
+use rl_defs::name::Name;
+use rl_defs::tables::{Kind, StructRow};
+use rl_defs::{LoadFault, Memory, Refusal};
+use std::alloc::Global;
+use std::mem;
+
+/// The first line of a struct: its number, and the struct's name.
+#[derive(Clone, Copy, Debug)]
+pub struct Head {
+    pub line: u32,
+    pub name: Name,
+}
+
+fn head_of(part: &Part, number: u32) -> Head
+    requires { number < length (struct_names part.now.lines.now) }
+    ensures { IsHead part.now.lines.now number result }
+{
+    let first = &part.lines[start_of(part, number)];
+    match struct_name(&first.form) {
+        Some(name) => Head {
+            line: first.line,
+            name,
+        },
+        None => unreachable!(),
+    }
+}
+
+// Whether one of the kinds is an `RRef` of a struct that holds an `RRef`.
+fn is_nested(
+    alloc: Global,
+    part: &Part,
+    seen: &mut Vec<bool>,
+    kinds: &[Kind],
+) -> Result<bool, Memory>
+    requires { Searching part.now.lines.now seen.old.items [] }
+    ensures { IfOk result (IsNested part.now.lines.now kinds.now seen.new.items) }
+{
+    'kinds: for kind in kinds {
+        if is_nested_kind(alloc, part, seen, *kind)? {
+            return Ok(true);
+        }
+    }
+    Ok(false)
+}
+
+// The same of one kind. A struct that isn't there has no fields.
+fn is_nested_kind(
+    alloc: Global,
+    part: &Part,
+    seen: &mut Vec<bool>,
+    kind: Kind,
+) -> Result<bool, Memory>
+    requires { Searching part.now.lines.now seen.old.items [] }
+    ensures { IfOk result (IsNested part.now.lines.now (kind ∷ []) seen.new.items) }
+{
+    match kind {
+        Kind::Own(held) => {
+            if held < count(part) {
+                search(alloc, part, seen, held)
+            } else {
+                Ok(false)
+            }
+        }
+        _ => Ok(false),
+    }
+}
+
+/// A refusal of a line by a rule.
+pub fn refused(line: u32, rule: u8) -> LoadFault
+    ensures { result ≡ LoadFault.Refused (record { line = line; rule = rule }) }
+{
+    LoadFault::Refused(Refusal { line, rule })
+}
+
+// The row of a struct, or the lowest rule that refuses it.
+fn row_of(
+    alloc: Global,
+    part: &Part,
+    seen: &mut Vec<bool>,
+    number: u32,
+    state: State,
+) -> Result<StructRow, LoadFault>
+    requires below { number < length (struct_names part.now.lines.now) }
+    requires known { StateAt part.now.lines.now number state }
+    requires searching { Searching part.now.lines.now seen.old.items [] }
+    ensures answer { IsRowAnswer part.now.lines.now number result }
+    ensures searching { OnOk result (Searching part.now.lines.now seen.new.items []) }
+{
+    let head = head_of(part, number);
+    match state {
+        State::Endless => Err(refused(head.line, 11)),
+        State::Ended(Cells::TooMany) => Err(refused(head.line, 12)),
+        State::Ended(Cells::Few(flat)) => match is_nested(alloc, part, seen, flat.as_slice()) {
+            Ok(true) => Err(refused(head.line, 13)),
+            Ok(false) => Ok(StructRow {
+                name: head.name,
+                flat,
+            }),
+            Err(_) => Err(LoadFault::Memory),
+        },
+        State::New | State::Open(_) => unreachable!(),
+    }
+}
+
+// Takes the state of a struct out of the list.
+fn take(states: &mut Vec<State>, number: u32) -> State
+    requires { number < length states.old.items }
+    ensures taken { slice_get states.old.items number ≡ Some result }
+    ensures left { states.new.items ≡ slice_set states.old.items number State.New }
+{
+    mem::replace(&mut states[number as usize], State::New)
+}
+
+// Puts the row of the next struct last, or says which rule refuses the struct.
+fn next_row(
+    alloc: Global,
+    part: &Part,
+    states: &mut Vec<State>,
+    seen: &mut Vec<bool>,
+    rows: &mut List<StructRow>,
+    number: u32,
+) -> Result<(), LoadFault>
+    requires below { number < length (struct_names part.now.lines.now) }
+    requires rowing { Rowing part.now.lines.now states.old.items seen.old.items rows.old number }
+    ensures ok { OnOk result (Rowing part.now.lines.now states.new.items seen.new.items rows.new (number + 1)) }
+    ensures err { IfErr result (λ e. IsRowAnswer part.now.lines.now number (Err e)) }
+{
+    let state = take(states, number);
+    let row = row_of(alloc, part, seen, number, state);
+    match row {
+        Ok(row) => match rows.push(row) {
+            Ok(()) => Ok(()),
+            Err(_) => Err(LoadFault::Memory),
+        },
+        Err(fault) => Err(fault),
+    }
+}
+
+fn none_seen(alloc: Global, part: &Part) -> Result<Vec<bool>, Memory>
+    ensures { IfOk result (λ seen. Searching part.now.lines.now seen.items []) }
+{
+    let mut seen = Vec::new(alloc);
+    'structs: for _ in 0..part.starts.len() {
+        match seen.push(false) {
+            Ok(()) => {}
+            Err(_) => return Err(Memory),
+        }
+    }
+    Ok(seen)
+}
+
+/// The rows of the structs of a part, or the first line and rule of the rules 11 to 13 that refuses one.
+pub fn struct_rows(alloc: Global, part: &Part) -> Result<List<StructRow>, LoadFault>
+    requires { Rises part.now.lines.now }
+    ensures { Answers (FailsStructs part.now.lines.now) (AllRows part.now.lines.now) result }
+{
+    let Ok(mut states) = walk(alloc, part) else {
+        return Err(LoadFault::Memory);
+    };
+    let Ok(mut seen) = none_seen(alloc, part) else {
+        return Err(LoadFault::Memory);
+    };
+    let mut rows = List::new(alloc);
+    'structs: for number in 0..count(part) {
+        if let Err(fault) = next_row(alloc, part, &mut states, &mut seen, &mut rows, number) {
+            return Err(fault);
+        }
+    }
+    Ok(rows)
+}
