@@ -10,3 +10,4 @@ pub mod StepLaws
 pub mod RenderLaws
 pub mod PartLaws
 pub mod ManyLaws
+pub mod WordLaws
