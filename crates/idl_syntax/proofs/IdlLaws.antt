@@ -1,5 +1,5 @@
 -- The lines of the interface part: a text is one form at most.
-use Rattle.std.proofs.Common.{◌≡◌, ℕ, List, [], ◌∷◌, length, eqb, false, map, Option, None, Some, Result, Ok, Err, inr, refl, sym, ap, subst, ◌∙◌, arith}
+use Rattle.std.proofs.Common.{◌≡◌, ℕ, List, [], ◌∷◌, length, eqb, false, map, None, Some, Err, inr, refl, sym, ap, subst, ◌∙◌, arith}
 use Rattle.rl_defs.specs.declared.LoadFault.{LoadFault}
 use Rattle.rl_defs.specs.declared.LoadFault.TheVariants.{Refused, Memory}
 use Rattle.rl_defs.specs.declared.idl.IdlLine.{IdlLine}
@@ -7,7 +7,7 @@ use Rattle.rl_defs.specs.Refusals.{IsFirst, Answers}
 use Rattle.rl_defs.specs.Tokens.{Token, HasTokens, IsSkipped, FailsTokens}
 use Rattle.rl_defs.specs.IdlForms.{spell_line, IsIdlLine}
 use Rattle.rl_defs.specs.IdlParts.{FailsIdlLine}
-use Rattle.rl_text.specs.Reading.{◌>>=◌, name_at, key_at, mark_at}
+use Rattle.rl_text.specs.Reading.{name_at, key_at, mark_at}
 use Rattle.rl_text.specs.declared.lexeme.Lexeme.{Lexeme}
 use Rattle.rl_text.specs.Lexemes.{token_of}
 use Rattle.rl_text.proofs.ReadingLaws.{one_reading}

@@ -1,5 +1,5 @@
 -- Lines: what is spelled so is read.
-use Rattle.std.proofs.Common.{◌≡◌, ℕ, suc, ◌<◌, ◌≤◌, Bool, true, false, List, [], ◌∷◌, ◌++◌, length, Option, None, Some, refl, sym, ap, ◌∙◌, append_assoc, append-nil, arith}
+use Rattle.std.proofs.Common.{◌≡◌, Bool, true, false, List, [], ◌∷◌, ◌++◌, None, Some, refl, ap, ◌∙◌, append_assoc}
 use Rattle.rl_defs.specs.declared.lexeme.Key.TheVariants as k
 use Rattle.rl_defs.specs.declared.lexeme.Mark.TheVariants as m
 use Rattle.rl_defs.specs.declared.tables.Width.TheVariants as width
@@ -13,13 +13,12 @@ use Rattle.rl_defs.specs.declared.idl.ResultText.{ResultText}
 use Rattle.rl_defs.specs.declared.idl.ResultText.TheVariants.{Missing, Plain, Rpc}
 use Rattle.rl_defs.specs.declared.idl.IdlLine.{IdlLine}
 use Rattle.rl_defs.specs.declared.idl.IdlLine.TheVariants.{Struct, Field, Trait, Idempotent, Method, Close}
-use Rattle.rl_defs.specs.Tokens.{Token, Name, Reserved, Sign}
-use Rattle.rl_defs.specs.IdlForms.{spell_type, spell_round, spell_more, spell_param, spell_out, spell_result, Choice, maybe, spell_line, IsType, AreTypes, AreParams, IsResult, IsForm}
-use Rattle.rl_text.specs.Reading.{Reader, ◌>>=◌, either, name_at, mark_at, key_at, word_at, end_at}
-use Rattle.rl_text.specs.Many.{all_at}
-use Rattle.rl_text.proofs.PartLaws.{Part, part, mark_again, Again}
+use Rattle.rl_defs.specs.Tokens.{Token, Reserved, Sign}
+use Rattle.rl_defs.specs.IdlForms.{spell_type, spell_round, spell_more, spell_param, spell_out, spell_result, Choice, spell_line, IsType, AreTypes, AreParams, IsResult, IsForm}
+use Rattle.rl_text.specs.Reading.{either, name_at, mark_at, key_at, word_at, end_at}
+use Rattle.rl_text.proofs.PartLaws.{part, mark_again, Again}
 use Rattle.rl_text.proofs.ManyLaws.{AllValid, all_again}
-use Rattle.idl_syntax.specs.Lines.{whole_type_at, param_at, several, types_at, parts_at, one_at, out_at, rpc_at, plain_out_at, behind_arrow_at, result_at, head_at, field_at, attribute_at, receiver_at, method_at, open_at, form_at, line_at}
+use Rattle.idl_syntax.specs.Lines.{whole_type_at, param_at, types_at, parts_at, one_at, out_at, result_at, head_at, field_at, attribute_at, receiver_at, method_at, open_at, form_at, line_at}
 use Rattle.idl_syntax.proofs.PartTakes.{whole_again, param_again, IsParam}
 use Rattle.idl_syntax.proofs.LineTakes.{choice}
 

@@ -1,5 +1,5 @@
 -- Lines: what is read is spelled so.
-use Rattle.std.proofs.Common.{◌≡◌, ℕ, ◌<◌, ◌≤◌, ◌⊎◌, inl, inr, Bool, true, false, cond, List, [], ◌∷◌, ◌++◌, length, Option, None, Some, refl, sym, ap, subst, ◌∙◌, append_assoc, append-nil, arith}
+use Rattle.std.proofs.Common.{◌≡◌, ℕ, inl, inr, Bool, true, false, List, [], ◌∷◌, ◌++◌, Option, None, Some, refl, sym, ap, subst, ◌∙◌, append_assoc, append-nil}
 use Rattle.std.specs.Prelude.{codes}
 use Rattle.rl_defs.specs.declared.lexeme.Key.TheVariants as k
 use Rattle.rl_defs.specs.declared.lexeme.Mark.TheVariants as m
@@ -11,9 +11,9 @@ use Rattle.rl_defs.specs.declared.idl.IdlLine.{IdlLine}
 use Rattle.rl_defs.specs.declared.idl.IdlLine.TheVariants.{Struct, Field, Trait, Idempotent, Method, Close}
 use Rattle.rl_defs.specs.Tokens.{Token, Name, Reserved, Sign}
 use Rattle.rl_defs.specs.IdlForms.{spell_type, spell_more, spell_param, spell_out, spell_result, Choice, maybe, spell_line, IsType, AreTypes, AreParams, IsResult, IsForm}
-use Rattle.rl_text.specs.Reading.{Reader, ◌>>=◌, either, name_at, mark_at, key_at, word_at, end_at}
+use Rattle.rl_text.specs.Reading.{◌>>=◌, either, mark_at, key_at, word_at, end_at}
 use Rattle.rl_text.specs.Many.{all_at}
-use Rattle.rl_text.proofs.PartLaws.{Part, part, both_parts, bind_some, either_some, mark_takes, key_takes, mark_step, key_step, word_step, name_step, end_takes, Takes}
+use Rattle.rl_text.proofs.PartLaws.{part, both_parts, bind_some, either_some, mark_takes, key_takes, mark_step, key_step, word_step, name_step, end_takes, Takes}
 use Rattle.rl_text.proofs.ManyLaws.{AllValid, all_takes}
 use Rattle.idl_syntax.specs.Lines.{whole_type_at, param_at, several, types_at, parts_at, one_at, out_at, rpc_at, plain_out_at, behind_arrow_at, result_at, head_at, struct_at, trait_at, behind_comma, field_at, attribute_at, receiver_at, method_at, open_at, close_at, form_at, line_at}
 use Rattle.idl_syntax.proofs.PartTakes.{whole_takes, param_takes, IsParam}

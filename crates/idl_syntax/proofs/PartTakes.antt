@@ -1,12 +1,12 @@
 -- Types and parameters: what is read is spelled so, and what is spelled so is read.
-use Rattle.std.proofs.Common.{◌≡◌, ℕ, ◌<◌, ◌≤◌, List, [], ◌∷◌, ◌++◌, length, Option, None, Some, refl, sym, ap, subst, ◌∙◌, arith}
+use Rattle.std.proofs.Common.{ℕ, List, ◌∷◌, ◌++◌, Some, refl, ap, subst, ◌∙◌, arith}
 use Rattle.rl_defs.specs.declared.lexeme.Mark.TheVariants as m
 use Rattle.rl_defs.specs.declared.idl.TypeText.{TypeText}
 use Rattle.rl_defs.specs.declared.idl.Param.{Param}
 use Rattle.rl_defs.specs.Tokens.{Token, Name, Sign}
 use Rattle.rl_defs.specs.IdlForms.{spell_type, spell_param, IsType}
-use Rattle.rl_text.specs.Reading.{Reader, ◌>>=◌, name_at, mark_at}
-use Rattle.rl_text.proofs.PartLaws.{Part, part, both_parts, bind_some, mark_step, name_step, name_again, mark_again, Takes, Again}
+use Rattle.rl_text.specs.Reading.{◌>>=◌, mark_at}
+use Rattle.rl_text.proofs.PartLaws.{part, both_parts, bind_some, mark_step, name_step, name_again, mark_again, Takes, Again}
 use Rattle.rl_text.proofs.ManyLaws.{Shortens, shortens}
 use Rattle.idl_syntax.specs.Lines.{whole_type_at, param_at}
 use Rattle.idl_syntax.proofs.TypeLaws.{type_takes, type_again}

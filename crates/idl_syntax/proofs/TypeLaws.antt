@@ -1,11 +1,10 @@
 -- Types: what is read is spelled so, and what is spelled so is read.
-use Rattle.std.proofs.Common.{◌≡◌, ℕ, zero, suc, ◌+◌, ◌-◌, ◌<◌, ◌≤◌, ◌⊎◌, inl, inr, Bool, true, false, cond, ◌&&◌, leb, List, [], ◌∷◌, ◌++◌, length, Option, None, Some, refl, sym, ap, subst, ◌∙◌, append_assoc, append-nil, arith}
+use Rattle.std.proofs.Common.{◌≡◌, ℕ, zero, suc, ◌-◌, ◌<◌, inl, inr, Bool, true, false, cond, ◌&&◌, leb, List, [], ◌∷◌, ◌++◌, length, Option, None, Some, refl, sym, ap, subst, ◌∙◌, append_assoc, arith}
 use Rattle.std.specs.Prelude.{nat_le}
 use Rattle.std.proofs.lemmas.Bool.Decides.{nat_tests}
 use Rattle.rl_defs.specs.declared.lexeme.Key.{Key}
 use Rattle.rl_defs.specs.declared.lexeme.Key.TheVariants as k
 use Rattle.rl_defs.specs.declared.lexeme.Mark.TheVariants as m
-use Rattle.rl_defs.specs.declared.tables.Width.{Width}
 use Rattle.rl_defs.specs.declared.tables.Width.TheVariants as width
 use Rattle.rl_defs.specs.declared.idl.Wrap.{Wrap}
 use Rattle.rl_defs.specs.declared.idl.Wrap.TheVariants as wrap
@@ -13,9 +12,9 @@ use Rattle.rl_defs.specs.declared.idl.Base.{Base}
 use Rattle.rl_defs.specs.declared.idl.Base.TheVariants as base
 use Rattle.rl_defs.specs.declared.idl.TypeText.{TypeText}
 use Rattle.rl_defs.specs.Tokens.{Token, Name, Reserved, Number, Text, Sign}
-use Rattle.rl_defs.specs.IdlForms.{spell_width, spell_base, spell_wrap, spell_round, spell_type, IsWrap, MayHold, AreWraps, IsType}
+use Rattle.rl_defs.specs.IdlForms.{spell_base, spell_round, spell_type, IsWrap, MayHold, AreWraps}
 use Rattle.rl_text.specs.Reading.{Reader, ◌>>=◌, either, name_at, number_at, mark_at, key_at, first_key, behind_first}
-use Rattle.rl_text.proofs.PartLaws.{Part, part, both_parts, bind_some, Took, either_some, mark_takes, key_takes, mark_step, name_step, number_step, Takes, Again}
+use Rattle.rl_text.proofs.PartLaws.{part, both_parts, bind_some, either_some, mark_takes, key_takes, mark_step, name_step, number_step, Takes, Again}
 use Rattle.rl_text.proofs.Runs.{and_true}
 use Rattle.idl_syntax.specs.Types.{angled_at, plain, wrapped, base_by, base_at, wrap_at, array_at, boxed_at, lent_by, lent_at, pointer_by, pointer_at, plain_at, type_at}
 

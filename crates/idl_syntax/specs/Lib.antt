@@ -4,3 +4,5 @@ pub mod Types
 pub mod Lines
 pub mod Forms
 pub mod Parts
+pub mod Writable
+pub mod Laws

@@ -1,6 +1,5 @@
 -- The interface line that tokens spell.
-use Rattle.std.specs.Prelude.{◌≡◌, ℕ, zero, suc, Bool, true, false, List, [], ◌∷◌, Option, None, Some, length, codes, Result, Ok, Err}
-use Rattle.rl_defs.specs.declared.lexeme.Key.{Key}
+use Rattle.std.specs.Prelude.{ℕ, List, [], ◌∷◌, Option, None, Some, codes}
 use Rattle.rl_defs.specs.declared.lexeme.Key.TheVariants as k
 use Rattle.rl_defs.specs.declared.lexeme.Mark.TheVariants as m
 use Rattle.rl_defs.specs.declared.idl.TypeText.{TypeText}
@@ -10,7 +9,7 @@ use Rattle.rl_defs.specs.declared.idl.ResultText.TheVariants.{Missing, Plain, Rp
 use Rattle.rl_defs.specs.declared.idl.IdlLine.{IdlLine}
 use Rattle.rl_defs.specs.declared.idl.IdlLine.TheVariants.{Struct, Field, Trait, Idempotent, Method, Close}
 use Rattle.rl_defs.specs.Tokens.{Token}
-use Rattle.rl_text.specs.Reading.{Reader, ◌>>=◌, either, name_at, mark_at, key_at, word_at, end_at, first_key, behind_first}
+use Rattle.rl_text.specs.Reading.{Reader, ◌>>=◌, either, name_at, mark_at, key_at, word_at, end_at}
 use Rattle.rl_text.specs.Many.{all_at}
 use Rattle.idl_syntax.specs.Types.{type_at}
 

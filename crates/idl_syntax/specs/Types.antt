@@ -1,16 +1,14 @@
 -- The types at the front of tokens.
-use Rattle.std.specs.Prelude.{◌≡◌, ℕ, zero, suc, Bool, ◌&&◌, nat_le, List, [], ◌∷◌, Option, None, Some, if◌then◌else◌}
+use Rattle.std.specs.Prelude.{ℕ, zero, suc, ◌&&◌, nat_le, List, [], ◌∷◌, Option, None, Some, if◌then◌else◌}
 use Rattle.rl_defs.specs.declared.lexeme.Key.{Key}
 use Rattle.rl_defs.specs.declared.lexeme.Key.TheVariants as k
 use Rattle.rl_defs.specs.declared.lexeme.Mark.TheVariants as m
-use Rattle.rl_defs.specs.declared.tables.Width.{Width}
 use Rattle.rl_defs.specs.declared.tables.Width.TheVariants as width
 use Rattle.rl_defs.specs.declared.idl.Wrap.{Wrap}
 use Rattle.rl_defs.specs.declared.idl.Wrap.TheVariants as wrap
 use Rattle.rl_defs.specs.declared.idl.Base.{Base}
 use Rattle.rl_defs.specs.declared.idl.Base.TheVariants as base
 use Rattle.rl_defs.specs.declared.idl.TypeText.{TypeText}
-use Rattle.rl_defs.specs.Tokens.{Token}
 use Rattle.rl_text.specs.Reading.{Reader, ◌>>=◌, either, name_at, number_at, mark_at, key_at, first_key, behind_first}
 
 -- `<STRUCT>`

@@ -2,7 +2,9 @@
 #![tactic(auto)]
 
 mod form;
+pub mod laws;
 mod list;
 pub mod part;
 pub mod read;
 mod types;
+pub mod write;

@@ -123,8 +123,21 @@ pub fn read_idl(alloc: Global, bytes: &[u8], lines: &[Line]) -> Result<Idl, Load
 mod tests {
     use super::*;
     use crate::read::read_idl_line;
+    use crate::write::write_idl;
     use rl_text::line::lines;
     use std::test::Fail;
+
+    const TEXT_0: &[u8] =
+        b"pub trait Math {\n    fn add(&self, a: u64, b: u64) -> RpcResult<u64>;\n}\n";
+
+    const TEXT_1: &[u8] =
+        b"pub struct P {\n    pub a: u64,\n}\npub trait Pass {\n    fn p(&self, o: RRef<P>) -> RpcResult<RRef<P>>;\n}\n";
+
+    const TEXT_2: &[u8] =
+        b"pub struct Block {\n    pub w: [u64; 64],\n}\npub trait BDev {\n    #[idempotent]\n    fn size(&self) -> RpcResult<u64>;\n    #[idempotent]\n    fn read(&self, n: u64) -> RpcResult<RRef<Block>>;\n    #[idempotent]\n    fn write(&self, n: u64, b: &RRef<Block>) -> RpcResult<()>;\n}\n";
+
+    const TEXT_3: &[u8] =
+        b"pub struct Name {\n    pub b: [u8; 32],\n}\npub struct Bytes {\n    pub b: [u8; 512],\n}\npub trait Files {\n    fn mkfs(&self) -> RpcResult<u64>;\n    fn create(&self, name: &RRef<Name>) -> RpcResult<(u64, u64)>;\n    fn find(&self, name: &RRef<Name>) -> RpcResult<(u64, u64)>;\n    fn size(&self, ino: u64) -> RpcResult<(u64, u64)>;\n    fn read(&self, ino: u64, pos: u64, len: u64, buf: RRef<Bytes>) -> RpcResult<(u64, u64, RRef<Bytes>)>;\n    fn write(&self, ino: u64, pos: u64, len: u64, buf: &RRef<Bytes>) -> RpcResult<u64>;\n    fn remove(&self, name: &RRef<Name>) -> RpcResult<u64>;\n}\npub trait Posix {\n    fn open(&self, name: &RRef<Name>, create: bool) -> RpcResult<(u64, u64)>;\n    fn close(&self, fd: u64) -> RpcResult<u64>;\n    fn read(&self, fd: u64, len: u64, buf: RRef<Bytes>) -> RpcResult<(u64, u64, RRef<Bytes>)>;\n    fn write(&self, fd: u64, len: u64, buf: &RRef<Bytes>) -> RpcResult<(u64, u64)>;\n    fn seek(&self, fd: u64, pos: u64) -> RpcResult<u64>;\n    fn unlink(&self, name: &RRef<Name>) -> RpcResult<u64>;\n    fn pipe_put(&self, v: u64) -> RpcResult<u64>;\n    fn pipe_get(&self) -> RpcResult<(u64, u64)>;\n}\n";
 
     fn is_form(alloc: Global, text: &[u8]) -> Result<bool, Fail> {
         let line = Line {
@@ -185,6 +198,23 @@ mod tests {
         Ok(())
     }
 
+    // Whether a text is written back as it was.
+    fn is_written_back(alloc: Global, text: &[u8]) -> Result<bool, Fail> {
+        if text.len() > 4096 {
+            return Err(Fail::from("long"));
+        }
+        let Ok(all) = lines(alloc, text) else {
+            return Err(Fail::from("memory"));
+        };
+        let Ok(idl) = read_idl(alloc, text, &all) else {
+            return Ok(false);
+        };
+        match write_idl(alloc, &idl) {
+            Ok(written) => Ok(written.as_slice() == text),
+            Err(_) => Err(Fail::from("memory")),
+        }
+    }
+
     #[test]
     fn order(rt: HostRuntime) -> Result<(), Fail> {
         let alloc = rt.alloc();
@@ -198,6 +228,9 @@ mod tests {
         assert_eq!(rt; part(alloc, b"trait T {\n#[idempotent]\n}\n")?, (0, 3, 2));
         assert_eq!(rt; part(alloc, b"trait T {\n")?, (0, 2, 2));
         assert_eq!(rt; part(alloc, b"a: u8,\nb: ,\n")?, (0, 1, 2));
+        for text in [TEXT_0, TEXT_1, TEXT_2, TEXT_3] {
+            assert!(rt; is_written_back(alloc, text)?);
+        }
         Ok(())
     }
 }

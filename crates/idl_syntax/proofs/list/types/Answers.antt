@@ -1,4 +1,4 @@
-use Rattle.std.proofs.Common.{ap, length, rules, arith}
+use Rattle.std.proofs.Common.{rules}
 use Rattle.idl_syntax.specs.Lines.{whole_type_at}
 use Rattle.rl_text.proofs.ManyLaws.{is_true, is_false, goes_on, fails, stops, falls}
 use Rattle.idl_syntax.proofs.PartTakes.{whole_type_shortens}

@@ -1,6 +1,4 @@
-use Rattle.std.proofs.Common.{◌≡◌, ◌∙◌, sym, ap, List, ℕ, map}
-use Rattle.rl_text.specs.Lexemes.{token_of}
-use Rattle.rl_text.specs.Places.{text_of}
+use Rattle.std.proofs.Common.{◌∙◌, sym}
 use Rattle.idl_syntax.proofs.IdlLaws.{is_line, fault_reads, refuses_line}
 use Rattle.idl_syntax.proofs.read.read_form.Goals as goal
 

@@ -1,6 +1,6 @@
 use Rattle.std.proofs.Common.{arith}
 use Rattle.rl_text.proofs.ManyLaws.{is_true, is_false}
-use Rattle.idl_syntax.proofs.TypeLaws.{type_lent, type_takes, type_again}
+use Rattle.idl_syntax.proofs.TypeLaws.{type_lent}
 use Rattle.idl_syntax.proofs.types.+types.Goals as goal
 
 pub type_of-returns-then-skip_mark-2 : goal.type_of-returns-then-skip_mark-2

@@ -1,0 +1,47 @@
+-- Tokens that can be written.
+use Rattle.std.specs.Prelude.{ℕ, ◌+◌, ◌*◌, ◌<◌, ◌≤◌, ◌^◌, IsTrue, List, [], ◌∷◌, ◌++◌, length, replicate}
+use Rattle.std.specs.List.{list_all}
+use Rattle.rl_defs.specs.declared.bundle.Numbered.{Numbered}
+use Rattle.rl_defs.specs.declared.idl.IdlLine.{IdlLine}
+use Rattle.rl_defs.specs.Lines.{lines_of}
+use Rattle.rl_defs.specs.Canonical.{render}
+use Rattle.rl_defs.specs.IdlParts.{StandFor, numbered}
+use Rattle.rl_defs.specs.Words.{is_name}
+use Rattle.rl_defs.specs.IdlForms.{spell_line, IsForm, IsIdlLine}
+use Rattle.rl_defs.specs.IdlCanonical.{canonical, depth_of}
+use Rattle.rl_defs.specs.Tokens.{Token, Name, Reserved, Number, Text, Sign, is_text_byte}
+
+-- a name is one, a number fits 64 bits, a text has bytes of a text
+abbrev pub IsWritable : Token → Type 0
+IsWritable (Name word) = IsTrue (is_name word)
+IsWritable (Reserved key) = Unit {0}
+IsWritable (Number n) = n < 2 ^ 64
+IsWritable (Text inner) = IsTrue (list_all is_text_byte inner)
+IsWritable (Sign mark) = Unit {0}
+
+abbrev pub AreWritable : List Token → Type 0
+AreWritable [] = Unit {0}
+AreWritable (token ∷ more) = IsWritable token × AreWritable more
+
+-- A text that was written for a line is that line, where its types are types, its names are names, and it is no longer than a line
+-- may be.
+abbrev pub IsReadAgain : IdlLine → List ℕ → Type 0
+IsReadAgain line text = IsForm line → AreWritable (spell_line canonical line) → length text ≤ 2048 → IsIdlLine line text
+
+-- the lines of a part, numbered anew from this number on
+abbrev pub renumbered : ℕ → List (Numbered IdlLine) → List (Numbered IdlLine)
+renumbered number [] = []
+renumbered number (line ∷ lines) = numbered number line.form ∷ renumbered (number + 1) lines
+
+-- a line of a part as it is written, without its line feed
+abbrev pub written : IdlLine → List ℕ
+written form = replicate (4 * depth_of form) 32 ++ render (spell_line canonical form)
+
+-- each line's types are types, its names are names, and it is no longer than a line may be
+abbrev pub CanBeRead : List (Numbered IdlLine) → Type 0
+CanBeRead [] = Unit {0}
+CanBeRead (line ∷ lines) = (IsForm line.form × AreWritable (spell_line canonical line.form) × (length (written line.form) ≤ 2048)) × CanBeRead lines
+
+-- A text that was written for a part stands for the same lines, but for their numbers.
+abbrev pub IsPartReadAgain : List (Numbered IdlLine) → List ℕ → Type 0
+IsPartReadAgain lines text = CanBeRead lines → (first : ℕ) → StandFor first (lines_of text) (renumbered first lines)

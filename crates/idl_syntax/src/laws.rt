@@ -1,0 +1,13 @@
+//! What holds of the forms of the interface part, whoever reads or writes them.
+ghost use Rattle.idl_syntax.specs.Laws.{OneForm, SkippedIsNoForm, OnePart};
+
+/// No two forms share a spelling, and a line without tokens is none.
+pub fn one_form()
+    ensures form { OneForm }
+    ensures skipped { SkippedIsNoForm }
+{}
+
+/// The texts of a part stand for one list of lines at most.
+pub fn one_part()
+    ensures { OnePart }
+{}
