@@ -34,5 +34,4 @@ unfolding write_part
 lines_all xs i before out le so_far = sym (so_far ∙ ap (λ (t : List (Numbered IdlLine)). out ++ write_part t) (drop_all i xs le) ∙ append-nil out)
 
 pub idempotent_name : is_name (codes "idempotent") ≡ true
-unfolding same_bytes
 idempotent_name = refl

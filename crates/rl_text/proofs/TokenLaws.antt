@@ -68,7 +68,6 @@ unfolding key_of
 key_is run key e = (slice_eq-Decides Decides-eqb (key_text key) run true (sym (find_passes (λ key. pointwise nat_eq (key_text key) run) all_keys key e))).0 refl
 
 key_reserved : (key : Key) → is_reserved (key_text key) ≡ true
-unfolding same_bytes
 key_reserved k.Pub = refl
 key_reserved k.Struct = refl
 key_reserved k.Trait = refl
