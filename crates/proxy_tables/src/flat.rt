@@ -1,0 +1,34 @@
+//! What the parameters and results of a method flatten to, up to a limit.
+ghost use Rattle.std.specs.Prelude.{◌≡◌, ℕ, ◌∷◌, ◌++◌, [], ◌<◌, ◌≤◌, List as Items, length, slice_get, IfOk};
+ghost use Rattle.rl_defs.specs.declared.idl.TypeText.{TypeText as Written};
+ghost use Rattle.rl_defs.specs.declared.tables.StructRow.{StructRow as Row};
+ghost use Rattle.rl_defs.specs.Interfaces.{structs_of, struct_names, param_types};
+ghost use Rattle.rl_defs.specs.TypeRules.{AreStructRows};
+ghost use Rattle.exchangeable_types.specs.Capped.{CellsOf};
+
+use exchangeable_types::cells::{Cells, put};
+use exchangeable_types::part::Part;
+use exchangeable_types::types::{kind_held, struct_held, times};
+use rl_defs::Memory;
+use rl_defs::idl::{Param, TypeText};
+use rl_defs::list::List;
+use rl_defs::tables::StructRow;
+use std::alloc::Global;
+
+/// The cells with those of one type more behind them, up to a limit.
+pub fn put_type(part: &Part, structs: &[StructRow], limit: usize, cells: Cells, ty: &TypeText) -> Result<Cells, Memory>
+    requires some { 0 < length (struct_names part.now.lines.now) }
+    requires rows { AreStructRows part.now.lines.now (structs_of part.now.lines.now) structs.now }
+    requires small { (k : ℕ) (row : Row) → slice_get structs.now k ≡ Some row → length row.flat ≤ 512 }
+    requires low { limit ≤ 512 }
+    ensures { IfOk result (λ more. (passed : Items Written) → CellsOf part.now.lines.now limit passed cells → CellsOf part.now.lines.now limit (passed ++ ty.now ∷ []) more) }
+{
+    let times = times(ty.wraps.as_slice());
+    if let Some(held) = struct_held(part, ty) {
+        return put(limit, cells, structs[held as usize].flat.as_slice(), times);
+    }
+    match kind_held(part, ty) {
+        Some(kind) => put(limit, cells, &[kind], times),
+        None => Ok(cells),
+    }
+}
