@@ -16,7 +16,13 @@ use rl_defs::tables::StructRow;
 use std::alloc::Global;
 
 /// The cells with those of one type more behind them, up to a limit.
-pub fn put_type(part: &Part, structs: &[StructRow], limit: usize, cells: Cells, ty: &TypeText) -> Result<Cells, Memory>
+pub fn put_type(
+    part: &Part,
+    structs: &[StructRow],
+    limit: usize,
+    cells: Cells,
+    ty: &TypeText,
+) -> Result<Cells, Memory>
     requires some { 0 < length (struct_names part.now.lines.now) }
     requires rows { AreStructRows part.now.lines.now (structs_of part.now.lines.now) structs.now }
     requires small { (k : ℕ) (row : Row) → slice_get structs.now k ≡ Some row → length row.flat ≤ 512 }
@@ -31,4 +37,46 @@ pub fn put_type(part: &Part, structs: &[StructRow], limit: usize, cells: Cells, 
         Some(kind) => put(limit, cells, &[kind], times),
         None => Ok(cells),
     }
+}
+
+/// What types flatten to, up to a limit.
+pub fn put_types(
+    alloc: Global,
+    part: &Part,
+    structs: &[StructRow],
+    limit: usize,
+    types: &[TypeText],
+) -> Result<Cells, Memory>
+    requires some { 0 < length (struct_names part.now.lines.now) }
+    requires rows { AreStructRows part.now.lines.now (structs_of part.now.lines.now) structs.now }
+    requires small { (k : ℕ) (row : Row) → slice_get structs.now k ≡ Some row → length row.flat ≤ 512 }
+    requires low { limit ≤ 512 }
+    ensures { IfOk result (CellsOf part.now.lines.now limit types.now) }
+{
+    let mut cells = Cells::Few(List::new(alloc));
+    'types: for ty in types {
+        cells = put_type(part, structs, limit, cells, ty)?;
+    }
+    Ok(cells)
+}
+
+/// What the types of parameters flatten to, up to a limit.
+pub fn put_params(
+    alloc: Global,
+    part: &Part,
+    structs: &[StructRow],
+    limit: usize,
+    params: &[Param],
+) -> Result<Cells, Memory>
+    requires some { 0 < length (struct_names part.now.lines.now) }
+    requires rows { AreStructRows part.now.lines.now (structs_of part.now.lines.now) structs.now }
+    requires small { (k : ℕ) (row : Row) → slice_get structs.now k ≡ Some row → length row.flat ≤ 512 }
+    requires low { limit ≤ 512 }
+    ensures { IfOk result (CellsOf part.now.lines.now limit (param_types params.now)) }
+{
+    let mut cells = Cells::Few(List::new(alloc));
+    'params: for param in params {
+        cells = put_type(part, structs, limit, cells, &param.ty)?;
+    }
+    Ok(cells)
 }

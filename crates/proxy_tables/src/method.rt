@@ -11,7 +11,10 @@ pub fn method(tables: &Tables, t: u32, name: &Name) -> Option<u32>
     requires { t < length tables.now.traits }
     ensures { IfSome (slice_get tables.now.traits t) (λ row. length row.methods < 2 ^ 32 → result ≡ place_of name.now (method_names row.methods)) }
 {
-    place(tables.traits.as_slice()[t as usize].methods.as_slice(), name)
+    place(
+        tables.traits.as_slice()[t as usize].methods.as_slice(),
+        name,
+    )
 }
 
 fn place(methods: &[MethodRow], name: &Name) -> Option<u32>
