@@ -1,2 +1,4 @@
 pub mod Methods
 pub mod Types
+pub mod Moving
+pub mod Scanning

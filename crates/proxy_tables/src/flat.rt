@@ -1,9 +1,9 @@
 //! What the parameters and results of a method flatten to, up to a limit.
-ghost use Rattle.std.specs.Prelude.{◌≡◌, ℕ, ◌∷◌, ◌++◌, [], ◌<◌, ◌≤◌, List as Items, length, slice_get, IfOk};
+ghost use Rattle.std.specs.Prelude.{◌≡◌, ℕ, ◌∷◌, ◌++◌, [], ◌≤◌, List as Items, length, IfOk};
 ghost use Rattle.rl_defs.specs.declared.idl.TypeText.{TypeText as Written};
-ghost use Rattle.rl_defs.specs.declared.tables.StructRow.{StructRow as Row};
-ghost use Rattle.rl_defs.specs.Interfaces.{structs_of, struct_names, param_types};
-ghost use Rattle.rl_defs.specs.TypeRules.{AreStructRows};
+ghost use Rattle.rl_defs.specs.Interfaces.{types_at, param_types};
+ghost use Rattle.rl_defs.specs.Flattening.{Flattens};
+ghost use Rattle.proxy_tables.specs.Rules.{KnowsRows};
 ghost use Rattle.exchangeable_types.specs.Capped.{CellsOf};
 
 use exchangeable_types::cells::{Cells, put};
@@ -12,26 +12,24 @@ use exchangeable_types::types::{kind_held, struct_held, times};
 use rl_defs::Memory;
 use rl_defs::idl::{Param, TypeText};
 use rl_defs::list::List;
-use rl_defs::tables::StructRow;
+use rl_defs::tables::{Kind, StructRow};
 use std::alloc::Global;
 
 /// The cells with those of one type more behind them, up to a limit.
 pub fn put_type(
     part: &Part,
-    structs: &[StructRow],
+    structs: &List<StructRow>,
     limit: usize,
     cells: Cells,
     ty: &TypeText,
 ) -> Result<Cells, Memory>
-    requires some { 0 < length (struct_names part.now.lines.now) }
-    requires rows { AreStructRows part.now.lines.now (structs_of part.now.lines.now) structs.now }
-    requires small { (k : ℕ) (row : Row) → slice_get structs.now k ≡ Some row → length row.flat ≤ 512 }
+    requires rows { KnowsRows part.now.lines.now structs.now }
     requires low { limit ≤ 512 }
     ensures { IfOk result (λ more. (passed : Items Written) → CellsOf part.now.lines.now limit passed cells → CellsOf part.now.lines.now limit (passed ++ ty.now ∷ []) more) }
 {
     let times = times(ty.wraps.as_slice());
     if let Some(held) = struct_held(part, ty) {
-        return put(limit, cells, structs[held as usize].flat.as_slice(), times);
+        return put(limit, cells, row_flat(part, structs, held), times);
     }
     match kind_held(part, ty) {
         Some(kind) => put(limit, cells, &[kind], times),
@@ -39,17 +37,28 @@ pub fn put_type(
     }
 }
 
+/// What the fields of a struct flatten to. A struct that isn't there has no fields.
+pub fn row_flat<'a>(part: &Part, structs: &'a List<StructRow>, held: u32) -> &'a [Kind]
+    requires { KnowsRows part.now.lines.now structs.now }
+    ensures flat { Flattens part.now.lines.now (types_at part.now.lines.now held) result.now }
+    ensures few { length result.now ≤ 512 }
+{
+    let _ = part;
+    match structs.get(held as usize) {
+        Some(row) => row.flat.as_slice(),
+        None => &[],
+    }
+}
+
 /// What types flatten to, up to a limit.
 pub fn put_types(
     alloc: Global,
     part: &Part,
-    structs: &[StructRow],
+    structs: &List<StructRow>,
     limit: usize,
     types: &[TypeText],
 ) -> Result<Cells, Memory>
-    requires some { 0 < length (struct_names part.now.lines.now) }
-    requires rows { AreStructRows part.now.lines.now (structs_of part.now.lines.now) structs.now }
-    requires small { (k : ℕ) (row : Row) → slice_get structs.now k ≡ Some row → length row.flat ≤ 512 }
+    requires rows { KnowsRows part.now.lines.now structs.now }
     requires low { limit ≤ 512 }
     ensures { IfOk result (CellsOf part.now.lines.now limit types.now) }
 {
@@ -64,13 +73,11 @@ pub fn put_types(
 pub fn put_params(
     alloc: Global,
     part: &Part,
-    structs: &[StructRow],
+    structs: &List<StructRow>,
     limit: usize,
     params: &[Param],
 ) -> Result<Cells, Memory>
-    requires some { 0 < length (struct_names part.now.lines.now) }
-    requires rows { AreStructRows part.now.lines.now (structs_of part.now.lines.now) structs.now }
-    requires small { (k : ℕ) (row : Row) → slice_get structs.now k ≡ Some row → length row.flat ≤ 512 }
+    requires rows { KnowsRows part.now.lines.now structs.now }
     requires low { limit ≤ 512 }
     ensures { IfOk result (CellsOf part.now.lines.now limit (param_types params.now)) }
 {

@@ -2,5 +2,8 @@
 //! 3.1: proxies).
 #![tactic(auto)]
 
+pub mod build;
 pub mod flat;
 pub mod method;
+pub mod rules;
+pub mod scan;
