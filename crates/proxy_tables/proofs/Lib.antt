@@ -2,3 +2,4 @@ pub mod Methods
 pub mod Types
 pub mod Moving
 pub mod Scanning
+pub mod Building
