@@ -1,5 +1,5 @@
 -- Rows that are built line by line.
-use Rattle.std.proofs.Common.{◌≡◌, ℕ, ◌+◌, ◌<◌, ◌≤◌, Bool, true, false, List, [], ◌∷◌, ◌++◌, length, drop, Option, Some, None, ◌⊎◌, inl, inr, refl, sym, ap, ◌∙◌, subst, arith, append_assoc}
+use Rattle.std.proofs.Common.{◌≡◌, ℕ, ◌+◌, Bool, true, false, List, [], ◌∷◌, ◌++◌, drop, Some, None, inl, inr, refl, sym, ap, ◌∙◌, subst, append_assoc}
 use Rattle.std.proofs.lemmas.List.{append-nil}
 use Rattle.std.specs.Prelude.{slice_get}
 use Rattle.rl_defs.specs.declared.bundle.Numbered.{Numbered}
@@ -11,10 +11,9 @@ use Rattle.rl_defs.specs.declared.idl.ResultText.{ResultText}
 use Rattle.rl_defs.specs.declared.tables.MethodRow.{MethodRow}
 use Rattle.rl_defs.specs.declared.tables.TraitRow.{TraitRow}
 use Rattle.rl_defs.specs.Refusals.{Nowhere}
-use Rattle.rl_defs.specs.Interfaces.{Lines, MethodText, TraitText, method_before, methods_of, trait_before, traits_of, trait_name, param_types, result_types}
+use Rattle.rl_defs.specs.Interfaces.{Lines, MethodText, TraitText, method_before, methods_of, trait_before, traits_of, trait_name}
 use Rattle.rl_defs.specs.MethodRules.{IsMethodRow, AreMethodRows, IsTraitRow, AreTraitRows, FailsMethods}
-use Rattle.rl_defs.proofs.Places.{drop_at, drop_past, get_within}
-use Rattle.proxy_tables.specs.Rules.{Exceeds}
+use Rattle.rl_defs.proofs.Places.{drop_at, drop_past}
 use Rattle.proxy_tables.specs.Built.{AllFit, MethodsTo, TraitsTo}
 
 methods_push : (lines : Lines) (ms : List MethodText) (rows : List MethodRow) (m : MethodText) (row : MethodRow) → AreMethodRows lines ms rows → IsMethodRow lines m row → AreMethodRows lines (ms ++ m ∷ []) (rows ++ row ∷ [])

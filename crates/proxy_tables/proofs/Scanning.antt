@@ -1,10 +1,10 @@
 -- The scan of the methods of a part.
-use Rattle.std.proofs.Common.{◌≡◌, ℕ, zero, suc, ◌+◌, ◌<◌, ◌≤◌, Bool, true, false, ◌||◌, List, [], ◌∷◌, length, Option, Some, None, ◌⊎◌, inl, inr, refl, sym, ap, ◌∙◌, subst, arith}
-use Rattle.std.specs.Prelude.{slice_get, IsTrue, Err}
+use Rattle.std.proofs.Common.{◌≡◌, ℕ, zero, suc, ◌+◌, ◌<◌, ◌≤◌, Bool, true, false, ◌||◌, List, [], ◌∷◌, length, Some, None, ◌⊎◌, inl, inr, refl, sym, ap, ◌∙◌, subst, arith}
+use Rattle.std.specs.Prelude.{slice_get, Err}
 use Rattle.std.specs.List.{list_any}
 use Rattle.std.proofs.lemmas.Bool.{cases_lt, cases_order}
 use Rattle.rl_defs.specs.declared.LoadFault.{LoadFault}
-use Rattle.rl_defs.specs.declared.LoadFault.TheVariants.{Refused, Memory}
+use Rattle.rl_defs.specs.declared.LoadFault.TheVariants.{Refused}
 use Rattle.rl_defs.specs.declared.bundle.Numbered.{Numbered}
 use Rattle.rl_defs.specs.declared.idl.Idl.{Idl}
 use Rattle.rl_defs.specs.declared.idl.IdlLine.{IdlLine}
@@ -14,11 +14,10 @@ use Rattle.rl_defs.specs.declared.idl.ResultText.{ResultText}
 use Rattle.rl_defs.specs.declared.tables.Kind.{Kind}
 use Rattle.rl_defs.specs.declared.tables.Kind.TheVariants as kind
 use Rattle.rl_defs.specs.Refusals.{IsFirst, Nowhere, Answers}
-use Rattle.rl_defs.specs.Interfaces.{Lines, Rises, param_types, result_types}
-use Rattle.rl_defs.specs.TypeRules.{LineIs}
-use Rattle.rl_defs.specs.MethodRules.{MethodAt, NoRpcResult, LendsResult, MovesWhenIssuedAgain, HasTooManyParams, HasTooManyResults, FailsMethods}
+use Rattle.rl_defs.specs.Interfaces.{Lines, Rises}
+use Rattle.rl_defs.specs.MethodRules.{MethodAt, FailsMethods}
 use Rattle.rl_defs.proofs.Places.{get_within}
-use Rattle.proxy_tables.specs.Rules.{is_own, Moves, Exceeds, FailsMethod, IsLowest}
+use Rattle.proxy_tables.specs.Rules.{is_own, FailsMethod}
 use Rattle.proxy_tables.specs.Scan.{IsLowestAt, is_mark, MarksAt, NoneTo}
 
 own_place : (kinds : List Kind) → list_any is_own kinds ≡ true → (i : ℕ) × (held : ℕ) × (slice_get kinds i ≡ Some (kind.Own held))
@@ -139,6 +138,7 @@ scan_goes idl k x marked rises s here lowest = record {
   marked_here n e = forms (record { line = n; form = form.Idempotent }) e refl where
     forms : (y : Numbered IdlLine) → Some x ≡ Some y → is_mark y.form ≡ true → is_mark x.form ≡ true
     forms y h t = let is : x ≡ y = cc in subst (λ (z : Numbered IdlLine). is_mark z.form ≡ true) (sym is) t
+
   lowest_here : (y : Numbered IdlLine) → Some x ≡ Some y → IsLowestAt idl.lines marked y.form None
   lowest_here y e = let is : x ≡ y = cc in subst (λ (z : Numbered IdlLine). IsLowestAt idl.lines marked z.form None) is lowest
 
@@ -161,6 +161,7 @@ scan_finds idl k x marked rule rises s here lowest = record {
 } where
   lines : (y : Numbered IdlLine) → Some x ≡ Some y → x.line ≡ y.line
   lines y e = let is : x ≡ y = cc in ap (λ (z : Numbered IdlLine). z.line) is
+
   at_line : (l r : ℕ) → FailsMethods idl l r → x.line ≡ l → (x.line < l) ⊎ ((x.line ≡ l) × (rule ≤ r))
   at_line l r f same = inr (same, least_at idl k x.line x.form marked rule r rises s.marks here lowest (subst (λ (n : ℕ). FailsMethods idl n r) (sym same) f))
 

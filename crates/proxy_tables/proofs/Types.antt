@@ -1,5 +1,5 @@
 -- The rows of the structs that types hold.
-use Rattle.std.proofs.Common.{◌≡◌, ℕ, zero, suc, ◌+◌, ◌<◌, ◌≤◌, List, [], ◌∷◌, ◌++◌, length, take, add-one, Option, Some, None, refl, sym, ap, ◌∙◌, subst, arith}
+use Rattle.std.proofs.Common.{◌≡◌, ℕ, zero, suc, ◌+◌, List, [], ◌∷◌, ◌++◌, length, take, add-one, Option, Some, None, refl, ap, subst, arith}
 use Rattle.std.specs.Prelude.{slice_get}
 use Rattle.rl_defs.specs.declared.idl.TypeText.{TypeText}
 use Rattle.rl_defs.specs.declared.idl.Param.{Param}
@@ -7,7 +7,7 @@ use Rattle.rl_defs.specs.declared.tables.Kind.{Kind}
 use Rattle.rl_defs.specs.declared.tables.StructRow.{StructRow}
 use Rattle.rl_defs.specs.Interfaces.{Lines, StructText, structs_of, types_of, types_at, field_types, param_types}
 use Rattle.rl_defs.specs.Flattening.{Flattens, Ends}
-use Rattle.rl_defs.specs.TypeRules.{IsStructRow, AreStructRows}
+use Rattle.rl_defs.specs.TypeRules.{AreStructRows}
 
 rows_length : (lines : Lines) (ts : List StructText) (rows : List StructRow) → AreStructRows lines ts rows → length rows ≡ length ts
 rows_length lines [] [] h = refl

@@ -1,7 +1,5 @@
 -- The rows of methods and traits, as they are built.
-use Rattle.std.specs.Prelude.{◌≡◌, ℕ, ◌+◌, Bool, List, [], ◌∷◌, ◌++◌, Some, slice_get, drop}
-use Rattle.rl_defs.specs.declared.idl.Idl.{Idl}
-use Rattle.rl_defs.specs.declared.idl.IdlLine.{IdlLine}
+use Rattle.std.specs.Prelude.{◌≡◌, ℕ, Bool, List, ◌++◌, Some, slice_get, drop}
 use Rattle.rl_defs.specs.declared.idl.IdlLine.TheVariants as form
 use Rattle.rl_defs.specs.declared.idl.Param.{Param}
 use Rattle.rl_defs.specs.declared.idl.ResultText.{ResultText}

@@ -1,5 +1,5 @@
 -- The scan of the methods of a part.
-use Rattle.std.specs.Prelude.{◌≡◌, ℕ, ◌+◌, ◌<◌, Bool, true, false, List, Option, Some, None, slice_get, IsTrue}
+use Rattle.std.specs.Prelude.{◌≡◌, ℕ, ◌+◌, ◌<◌, Bool, true, false, Option, Some, None, slice_get, IsTrue}
 use Rattle.rl_defs.specs.declared.bundle.Numbered.{Numbered}
 use Rattle.rl_defs.specs.declared.idl.Idl.{Idl}
 use Rattle.rl_defs.specs.declared.idl.IdlLine.{IdlLine}

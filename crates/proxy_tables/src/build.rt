@@ -35,7 +35,15 @@ fn few(cells: Cells) -> List<Kind>
     }
 }
 
-fn method_row(alloc: Global, part: &Part, structs: &List<StructRow>, name: &Name, marked: bool, params: &[Param], outcome: &ResultText) -> Result<MethodRow, Memory>
+fn method_row(
+    alloc: Global,
+    part: &Part,
+    structs: &List<StructRow>,
+    name: &Name,
+    marked: bool,
+    params: &[Param],
+    outcome: &ResultText,
+) -> Result<MethodRow, Memory>
     requires rows { KnowsRows part.now.lines.now structs.now }
     requires params { Exceeds part.now.lines.now (param_types params.now) 8 → ⊥ }
     requires results { Exceeds part.now.lines.now (result_types outcome.now) 4 → ⊥ }
@@ -61,7 +69,12 @@ fn line_at<'a>(lines: &'a [Numbered<IdlLine>], at: usize) -> Option<&'a Numbered
 }
 
 // The rows of the methods that stand from a place on.
-fn method_rows(alloc: Global, part: &Part, structs: &List<StructRow>, start: usize) -> Result<List<MethodRow>, Memory>
+fn method_rows(
+    alloc: Global,
+    part: &Part,
+    structs: &List<StructRow>,
+    start: usize,
+) -> Result<List<MethodRow>, Memory>
     requires start { start ≤ length part.now.lines.now }
     requires rows { KnowsRows part.now.lines.now structs.now }
     requires fit { AllFit part.now.lines.now }
@@ -73,8 +86,20 @@ fn method_rows(alloc: Global, part: &Part, structs: &List<StructRow>, start: usi
     'methods: while let Some(line) = line_at(part.lines, at) {
         match &line.form {
             IdlLine::Idempotent => marked = true,
-            IdlLine::Method { name, params, result: outcome } => {
-                let row = method_row(alloc, part, structs, name, marked, params.as_slice(), outcome)?;
+            IdlLine::Method {
+                name,
+                params,
+                result: outcome,
+            } => {
+                let row = method_row(
+                    alloc,
+                    part,
+                    structs,
+                    name,
+                    marked,
+                    params.as_slice(),
+                    outcome,
+                )?;
                 rows.push(row)?;
                 marked = false;
             }
@@ -85,7 +110,11 @@ fn method_rows(alloc: Global, part: &Part, structs: &List<StructRow>, start: usi
     Ok(rows)
 }
 
-fn trait_rows(alloc: Global, part: &Part, structs: &List<StructRow>) -> Result<List<TraitRow>, Memory>
+fn trait_rows(
+    alloc: Global,
+    part: &Part,
+    structs: &List<StructRow>,
+) -> Result<List<TraitRow>, Memory>
     requires rows { KnowsRows part.now.lines.now structs.now }
     requires fit { AllFit part.now.lines.now }
     ensures { IfOk result (AreTraitRows part.now.lines.now (traits_of part.now.lines.now)) }

@@ -7,3 +7,5 @@ pub mod flat;
 pub mod method;
 pub mod rules;
 pub mod scan;
+#[cfg(test)]
+mod tests;

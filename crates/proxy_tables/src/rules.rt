@@ -88,7 +88,13 @@ fn is_many(cells: &Cells) -> bool
 }
 
 // Whether there are more than 8 parameters or 4 results after flattening.
-fn exceeds(alloc: Global, part: &Part, structs: &List<StructRow>, params: &[Param], results: &[TypeText]) -> Result<bool, Memory>
+fn exceeds(
+    alloc: Global,
+    part: &Part,
+    structs: &List<StructRow>,
+    params: &[Param],
+    results: &[TypeText],
+) -> Result<bool, Memory>
     requires { KnowsRows part.now.lines.now structs.now }
     ensures { IfOk result (IsExceeding part.now.lines.now (param_types params.now) results.now) }
 {
@@ -101,7 +107,14 @@ fn exceeds(alloc: Global, part: &Part, structs: &List<StructRow>, params: &[Para
 }
 
 /// The lowest of the rules 20 to 23 that refuses a method, which is marked as idempotent or isn't.
-pub fn rule_of(alloc: Global, part: &Part, structs: &List<StructRow>, marked: bool, params: &[Param], outcome: &ResultText) -> Result<Option<u8>, Memory>
+pub fn rule_of(
+    alloc: Global,
+    part: &Part,
+    structs: &List<StructRow>,
+    marked: bool,
+    params: &[Param],
+    outcome: &ResultText,
+) -> Result<Option<u8>, Memory>
     requires { KnowsRows part.now.lines.now structs.now }
     ensures { IfOk result (IsLowest part.now.lines.now marked params.now outcome.now) }
 {

@@ -21,18 +21,33 @@ fn is_mark(line: &IdlLine) -> bool
     matches!(line, IdlLine::Idempotent)
 }
 
-fn rule_at(alloc: Global, part: &Part, structs: &List<StructRow>, marked: bool, line: &IdlLine) -> Result<Option<u8>, Memory>
+fn rule_at(
+    alloc: Global,
+    part: &Part,
+    structs: &List<StructRow>,
+    marked: bool,
+    line: &IdlLine,
+) -> Result<Option<u8>, Memory>
     requires { KnowsRows part.now.lines.now structs.now }
     ensures { IfOk result (IsLowestAt part.now.lines.now marked line.now) }
 {
     match line {
-        IdlLine::Method { params, result: outcome, .. } => rule_of(alloc, part, structs, marked, params.as_slice(), outcome),
+        IdlLine::Method {
+            params,
+            result: outcome,
+            ..
+        } => rule_of(alloc, part, structs, marked, params.as_slice(), outcome),
         _ => Ok(None),
     }
 }
 
 /// The first line that the rules 20 to 23 refuse, with the lowest of these rules there.
-pub fn check_methods(alloc: Global, idl: &Idl, part: &Part, structs: &List<StructRow>) -> Result<(), LoadFault>
+pub fn check_methods(
+    alloc: Global,
+    idl: &Idl,
+    part: &Part,
+    structs: &List<StructRow>,
+) -> Result<(), LoadFault>
     requires same { part.now.lines.now ≡ idl.now.lines }
     requires rises { Rises idl.now.lines }
     requires rows { KnowsRows part.now.lines.now structs.now }

@@ -1,4 +1,4 @@
-use Rattle.std.proofs.Common.{◌≡◌, ◌<◌, List, false, length, drop, sym, ap, subst, arith}
+use Rattle.std.proofs.Common.{List, false, drop, sym, subst, arith}
 use Rattle.rl_defs.specs.declared.idl.Param.{Param}
 use Rattle.rl_defs.specs.Interfaces.{methods_of, param_types}
 use Rattle.rl_defs.specs.Flattening.{Flattens}
@@ -23,7 +23,7 @@ pub methods-preserved : goal.methods-preserved
 methods-preserved c = elim c.match-line.branch [
   | in-Idempotent w ↦ rw (w.rows-is, w.marked-is) (methods_mark c.args.part.now.lines.now (methods_of (drop c.args.start c.args.part.now.lines.now) false) c.methods.rows c.methods.at c.methods.marked c.in-Some.line.now c.methods.invariant (sym c.in-Some.ensures) w.in-Idempotent.is)
   | in-Method+in_ok-row-in-Method+in_ok-push-in-Method w ↦ rw (w.rows-is, w.marked-is) (methods_more c.args.part.now.lines.now (methods_of (drop c.args.start c.args.part.now.lines.now) false) c.methods.rows w.push.new.self c.methods.at c.methods.marked c.in-Some.line.now w.in-Method.name w.in-Method.params w.in-Method.outcome w.in_ok-row-in-Method.row c.methods.invariant (sym c.in-Some.ensures) w.in-Method.is (record { name = w.in_ok-row-in-Method.ensures.name; idempotent = w.in_ok-row-in-Method.ensures.marked; params = subst (λ (ps : List Param). Flattens c.args.part.now.lines.now (param_types ps) w.in_ok-row-in-Method.row.params) w.as_slice.ensures w.in_ok-row-in-Method.ensures.params; results = w.in_ok-row-in-Method.ensures.results }) w.in_ok-push-in-Method.ensures.ok)
-  ]
+]
 
 pub returns : goal.returns
 returns c = methods_past c.args.part.now.lines.now (methods_of (drop c.args.start c.args.part.now.lines.now) false) c.methods.rows c.methods.at c.methods.marked c.methods.invariant (sym c.in_default.ensures)

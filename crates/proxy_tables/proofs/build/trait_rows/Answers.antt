@@ -1,4 +1,4 @@
-use Rattle.std.proofs.Common.{◌≡◌, ◌<◌, length, sym, subst, arith}
+use Rattle.std.proofs.Common.{sym, arith}
 use Rattle.rl_defs.proofs.Places.{get_within}
 use Rattle.proxy_tables.proofs.Building.{traits_begin, traits_same, traits_more, traits_end}
 use Rattle.proxy_tables.proofs.build.trait_rows.Goals as goal

@@ -1,4 +1,4 @@
-use Rattle.std.proofs.Common.{◌≡◌, Bool, List, sym, ap, ◌∙◌, subst}
+use Rattle.std.proofs.Common.{Bool, List, sym, ap, ◌∙◌, subst}
 use Rattle.std.specs.List.{list_any}
 use Rattle.rl_defs.specs.declared.idl.TypeText.{TypeText}
 use Rattle.rl_defs.specs.Interfaces.{param_types, result_types}

@@ -1,8 +1,8 @@
-use Rattle.std.proofs.Common.{◌≡◌, ℕ, Bool, List, Option, Some, None, ◌+◌, length, refl, sym, ap, subst, ◌∙◌, arith}
+use Rattle.std.proofs.Common.{◌≡◌, ℕ, Bool, Option, Some, None, ◌+◌, length, refl, sym, ap, subst, arith}
 use Rattle.std.specs.Prelude.{slice_get}
 use Rattle.std.proofs.lemmas.Option.{slice_get_read}
 use Rattle.rl_defs.specs.Interfaces.{Lines}
-use Rattle.proxy_tables.specs.Scan.{IsLowestAt, is_mark}
+use Rattle.proxy_tables.specs.Scan.{IsLowestAt}
 use Rattle.proxy_tables.proofs.Scanning.{ScanTo, scan_goes, scan_finds, scan_ends, refused_answers}
 use Rattle.proxy_tables.proofs.scan.check_methods.Goals as goal
 
