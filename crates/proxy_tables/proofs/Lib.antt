@@ -1,0 +1,5 @@
+pub mod Methods
+pub mod Types
+pub mod Moving
+pub mod Scanning
+pub mod Building
