@@ -26,3 +26,7 @@ pub mod Holding
 pub mod TypeRules
 pub mod NameRules
 pub mod MethodRules
+pub mod Parts
+pub mod DomainForms
+pub mod DomainParts
+pub mod DomainCanonical
