@@ -6,8 +6,6 @@ use Rattle.rl_defs.specs.declared.values.Value.{Value}
 use Rattle.rl_defs.specs.declared.values.Value.TheVariants as value
 use Rattle.rl_defs.specs.declared.values.Arg.{Arg}
 use Rattle.rl_defs.specs.declared.values.Arg.TheVariants as given
-use Rattle.rl_defs.specs.declared.values.RpcCode.{RpcCode}
-use Rattle.rl_defs.specs.declared.values.RpcCode.TheVariants as code
 use Rattle.rl_defs.specs.declared.code.Register.{Register}
 use Rattle.rl_defs.specs.declared.code.RegKind.{RegKind}
 use Rattle.rl_defs.specs.declared.code.RegKind.TheVariants as held
@@ -28,6 +26,7 @@ use Rattle.rl_defs.specs.Parts.{block_behind, forms_of}
 use Rattle.rl_defs.specs.DomainParts.{domain_part, begins_domain, rest_of_domain, Outside}
 use Rattle.rl_defs.specs.DomainValue.{Domain}
 use Rattle.rl_defs.specs.Domains.{Lines}
+use Rattle.rl_defs.specs.Texts.{code_number}
 use Rattle.rl_defs.specs.CodeNames.{struct_number, cells_of, slots, imports, type_at, slot_struct, import_trait, function_at, trait_number, results_of}
 use Rattle.rl_defs.specs.CodeKinds.{Kinds, kinds_at, kind_in, left, passed, method_called, hung_at, as_register}
 use Rattle.rl_defs.specs.CodeRules.{FailsCode, is_inside}
@@ -147,12 +146,6 @@ abbrev pub put_values : List Register → List Value → Registers → Registers
 put_values [] values regs = regs
 put_values (r ∷ rs) [] regs = regs
 put_values (r ∷ rs) (v ∷ values) regs = put_values rs values (with_value regs r (Some v))
-
-abbrev pub code_number : RpcCode → ℕ
-code_number code.Gone = 1
-code_number code.Unwound = 2
-code_number code.Deep = 3
-code_number code.Order = 4
 
 -- the registers behind an answer
 abbrev pub answered : Instr → Answer → Registers → Registers

@@ -350,7 +350,7 @@ sentences d n form =
 
 -- the line at a place breaks a sentence of this rule
 abbrev pub breaks : Domain → ℕ → DomainLine → ℕ → Bool
-breaks d n form rule = list_any (λ s. (s.0 == rule) && not s.1) (sentences d n form)
+breaks d n form rule = list_any (λ s. not s.1 && (s.0 == rule)) (sentences d n form)
 
 -- which of the rules 30 to 37 fail at which lines of a domain
 pub record FailsCode (d : Domain) (number rule : ℕ) : Type 0 where

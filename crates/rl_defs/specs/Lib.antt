@@ -37,3 +37,4 @@ pub mod NativeShapes
 pub mod CodeRules
 pub mod Instructions
 pub mod CodeFits
+pub mod LineRows
