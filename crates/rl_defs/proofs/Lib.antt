@@ -4,3 +4,4 @@ pub mod WorkedRun
 pub mod Places
 pub mod FlatteningLaws
 pub mod HoldingLaws
+pub mod CheckedRows

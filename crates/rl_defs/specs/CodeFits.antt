@@ -30,7 +30,8 @@ use Rattle.rl_defs.specs.Texts.{code_number}
 use Rattle.rl_defs.specs.CodeNames.{struct_number, cells_of, slots, imports, type_at, slot_struct, import_trait, function_at, trait_number, results_of}
 use Rattle.rl_defs.specs.CodeKinds.{Kinds, kinds_at, kind_in, left, passed, method_called, hung_at, as_register}
 use Rattle.rl_defs.specs.CodeRules.{FailsCode, is_inside}
-use Rattle.rl_defs.specs.Instructions.{Sight, Registers, Stand, with_value, with_number, value_in, jumped}
+use Rattle.rl_defs.specs.Sight.{Sight}
+use Rattle.rl_defs.specs.Instructions.{Registers, Stand, with_value, with_number, value_in, jumped}
 
 -- the rows are as many, and as large, as the rows of an interface part may be
 pub record IsMethodSmall (m : MethodRow) : Type 0 where
@@ -54,6 +55,10 @@ pub record AreTablesSmall (tables : Tables) : Type 0 where
 abbrev pub IsOneDomain : Lines → Type 0
 IsOneDomain [] = ⊥
 IsOneDomain (l ∷ ls) = (begins_domain l.form ≡ true) × (rest_of_domain ls ≡ ls) × (block_behind domain_part (forms_of (l ∷ ls)) ≡ Some Outside)
+
+-- the lines are numbered upwards
+abbrev pub LinesRise : Lines → Type 0
+LinesRise lines = (j k : ℕ) (x y : Numbered DomainLine) → j < k → slice_get lines j ≡ Some x → slice_get lines k ≡ Some y → x.line < y.line
 
 -- A domain of fewer than 2^31 lines that keeps rules 30 to 37.
 pub record KeepsRules (d : Domain) : Type 0 where

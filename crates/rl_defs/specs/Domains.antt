@@ -5,7 +5,7 @@ use Rattle.rl_defs.specs.declared.bundle.Numbered.{Numbered}
 use Rattle.rl_defs.specs.declared.code.DomainLine.{DomainLine}
 use Rattle.rl_defs.specs.declared.code.DomainLine.TheVariants as line
 use Rattle.rl_defs.specs.declared.code.Native.TheVariants as native
-use Rattle.rl_defs.specs.declared.code.DomainText.{DomainText}
+use Rattle.rl_defs.specs.DomainValue.{Domain}
 use Rattle.rl_defs.specs.declared.load.Load.{Load}
 use Rattle.rl_defs.specs.declared.load.LoadRow.{LoadRow}
 use Rattle.rl_defs.specs.declared.load.ShadowRow.{ShadowRow}
@@ -18,9 +18,9 @@ use Rattle.rl_defs.specs.Words.{same_bytes}
 abbrev pub Lines : Type 0
 Lines = List (Numbered DomainLine)
 
-abbrev pub domain_lines : Option DomainText → Lines
+abbrev pub domain_lines : Option Domain → Lines
 domain_lines None = []
-domain_lines (Some text) = text.lines
+domain_lines (Some d) = d.lines
 
 -- the lines of the domain with this number, from 0
 abbrev pub domain_of : Load → ℕ → Lines

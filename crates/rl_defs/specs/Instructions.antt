@@ -26,21 +26,12 @@ use Rattle.rl_defs.specs.declared.tables.Kind.{Kind}
 use Rattle.rl_defs.specs.declared.tables.Kind.TheVariants as kind
 use Rattle.rl_defs.specs.declared.frame.Action.{Action}
 use Rattle.rl_defs.specs.declared.frame.Action.TheVariants as action
+use Rattle.rl_defs.specs.Sight.{Sight}
 use Rattle.rl_defs.specs.DomainValue.{Domain}
 use Rattle.rl_defs.specs.Domains.{Lines}
 use Rattle.rl_defs.specs.CodeNames.{struct_number, cells_of, method_number, params_of, results_of, slots, imports, place_in, method_at, label_at}
 use Rattle.rl_defs.specs.CodeKinds.{Kinds, kinds_at, kind_in, Need, Number, Copied, Owned, Object, Target, Passed, Read, reads, method_called}
 use Rattle.rl_defs.specs.CodeRules.{object_struct, label_of, place_of_label}
-
--- what register work sees of the machine: number cells of objects, words, slots, what hangs in a cell, the device's blocks, the target
--- that is bound to an import
-pub record Sight : Type 0 where
-  pub cell : ℕ → ℕ → Option ℕ
-  pub word : ℕ → Option ℕ
-  pub slot : ℕ → Option ℕ
-  pub hung : ℕ → ℕ → Option ℕ
-  pub blocks : ℕ
-  pub bound : ℕ → ℕ
 
 -- what each register holds
 abbrev pub Registers : Type 0
@@ -227,7 +218,7 @@ meaning d n kinds sight live regs (instr.Hang o place v) = unless_trap (is_none 
 meaning d n kinds sight live regs (instr.Unhang a o place) = unless_trap (is_some (sight.hung (object_in regs o) place)) cause.Empty (action.Unhang (object_in regs o) place)
 meaning d n kinds sight live regs (instr.Call c method args results code label) =
     unless_trap (args_fit (params_of (method_called d.tables (kind_in kinds c) method)) (map (given_by regs) args)) cause.Range
-        (action.Call (target (value_in regs c)) (unwrap_or (method_number d.tables (trait_of_kind (kind_in kinds c)) method) 0) (map (given_by regs) args))
+    (action.Call (target (value_in regs c)) (unwrap_or (method_number d.tables (trait_of_kind (kind_in kinds c)) method) 0) (map (given_by regs) args))
 meaning d n kinds sight live regs (instr.Ret results) =
     unless_trap (values_fit (results_of (method_at d n)) (map (result_in regs) results)) cause.Range (action.Ret (map (result_in regs) results))
 meaning d n kinds sight live regs instr.Trap = traps cause.Asked

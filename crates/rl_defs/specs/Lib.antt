@@ -35,6 +35,8 @@ pub mod CodeNames
 pub mod CodeKinds
 pub mod NativeShapes
 pub mod CodeRules
+pub mod Sight
 pub mod Instructions
 pub mod CodeFits
 pub mod LineRows
+pub mod Checked

@@ -12,7 +12,7 @@ use Rattle.rl_defs.specs.declared.tables.Tables.{Tables}
 use Rattle.rl_defs.specs.declared.tables.Kind.{Kind}
 use Rattle.rl_defs.specs.declared.tables.Kind.TheVariants as kind
 use Rattle.rl_defs.specs.declared.tables.Width.TheVariants as width
-use Rattle.rl_defs.specs.declared.code.DomainText.{DomainText}
+use Rattle.rl_defs.specs.DomainValue.{Domain}
 use Rattle.rl_defs.specs.declared.code.DomainLine.{DomainLine}
 use Rattle.rl_defs.specs.declared.code.DomainLine.TheVariants as form
 use Rattle.rl_defs.specs.declared.code.Register.{Register}
@@ -64,7 +64,7 @@ r2 = register 2 (lit< tt)
 abbrev pub at_line : ℕ → DomainLine → Numbered DomainLine
 at_line n form = record { line = n; form = form }
 
-abbrev pub small_domain : DomainText
+abbrev pub small_domain : Domain
 small_domain = record {
   lines =
       at_line 6 (form.Domain (codes "Calc") (codes "Math"))
@@ -74,6 +74,7 @@ small_domain = record {
       ∷ at_line 10 form.Close
       ∷ at_line 11 form.Close
       ∷ [];
+  tables = small_tables;
 }
 
 -- the load of the calls with these numbers

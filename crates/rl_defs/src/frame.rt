@@ -1,5 +1,6 @@
 //! Frames of a stack, what they want to do, and what they are answered.
-ghost use Rattle.std.specs.Prelude.{◌≡◌, ℕ, Option};
+ghost use Rattle.std.specs.Prelude.{◌≡◌};
+ghost use Rattle.rl_defs.specs.Sight.{Sight};
 
 use crate::arrays::{Args, Numbers, Objects, Registers, Results};
 use crate::values::{Cause, RpcCode};
@@ -74,39 +75,29 @@ pub enum Answer {
 /// What register work and native bodies see of the machine: one instance's words, slots and bindings, the cells of the objects that
 /// its frame may read, and the device.
 pub trait View {
-    ghost cell: { Self → ℕ → ℕ → Option ℕ };
-
-    ghost word: { Self → ℕ → Option ℕ };
-
-    ghost slot: { Self → ℕ → Option ℕ };
-
-    ghost hung: { Self → ℕ → ℕ → Option ℕ };
-
-    ghost blocks: { Self → ℕ };
-
-    ghost bound: { Self → ℕ → ℕ };
+    ghost sight: { Self → Sight };
 
     /// A number cell of an object. None exactly where the place isn't below the count of cells or is an `RRef` cell.
     fn cell(&self, object: u64, at: u64) -> Option<u64>
-        ensures { result ≡ cell self.now object at };
+        ensures { result ≡ (sight self.now).cell object at };
 
     /// A word of the instance. None exactly where the place isn't below the count of words.
     fn word(&self, at: u64) -> Option<u64>
-        ensures { result ≡ word self.now at };
+        ensures { result ≡ (sight self.now).word at };
 
     /// The object in a slot of the instance. None exactly where the slot is empty.
     fn slot(&self, at: u32) -> Option<u64>
-        ensures { result ≡ slot self.now at };
+        ensures { result ≡ (sight self.now).slot at };
 
     /// The object in an `RRef` cell of an object. None exactly where the place is no such cell or is empty.
     fn hung(&self, object: u64, at: u64) -> Option<u64>
-        ensures { result ≡ hung self.now object at };
+        ensures { result ≡ (sight self.now).hung object at };
 
     /// How many blocks the device has, 0 where the domain isn't the device's.
     fn blocks(&self) -> u64
-        ensures { result ≡ blocks self.now };
+        ensures { result ≡ (sight self.now).blocks };
 
     /// The target that is bound to an import of the frame's load, 0 where there is no such import.
     fn bound(&self, import: u32) -> u32
-        ensures { result ≡ bound self.now import };
+        ensures { result ≡ (sight self.now).bound import };
 }

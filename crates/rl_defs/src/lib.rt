@@ -7,6 +7,7 @@
 
 pub mod arrays;
 pub mod bundle;
+pub mod checked;
 pub mod code;
 pub mod copies;
 pub mod entry;

@@ -1,49 +1,9 @@
 //! A load: what an accepted bundle stands for.
-ghost use Rattle.std.specs.Prelude.{◌≡◌, ◌<◌, ◌^◌, length, IfOk};
 
-use crate::Memory;
-use crate::code::DomainText;
+use crate::checked::CheckedDomain;
 use crate::list::List;
 use crate::name::Name;
-use crate::tables::Tables;
-use std::alloc::Global;
-use std::marker::Model;
-
-/// The text of a domain that keeps the rules of domain code.
-#[derive(Debug, Drop)]
-pub struct CheckedDomain {
-    text: DomainText,
-}
-
-impl Model for CheckedDomain {
-    ghost use Rattle.std.specs.Prelude.{◌<◌, ◌^◌, length};
-    ghost use Rattle.rl_defs.specs.declared.code.DomainText.{DomainText};
-
-    ghost Value = { DomainText };
-
-    ghost view = { λ d. d.text };
-
-    ghost invariant = { λ d. length d.text.lines < 2 ^ 31 };
-}
-
-impl CheckedDomain {
-    /// The checked domain of a text. The tables are those that its names are looked up in.
-    pub fn new(text: DomainText, tables: &Tables) -> Result<CheckedDomain, Memory>
-        requires { length text.lines < 2 ^ 31 }
-        ensures { IfOk result (λ d. d ≡ text) }
-    {
-        let _ = tables;
-        Ok(CheckedDomain { text })
-    }
-
-    /// The text.
-    pub fn text(&self) -> &DomainText
-        ensures text { result.now ≡ self.now }
-        ensures short { length self.now.lines < 2 ^ 31 }
-    {
-        &self.text
-    }
-}
+use crate::tables::SharedTables;
 
 /// An argument of a client's call. A script name is its place among the names that the client's commands bind, from 0.
 #[derive(Clone, Copy, Debug, PartialEq, Eq)]
@@ -118,7 +78,7 @@ pub struct ClientRow {
 /// are numbered from 1.
 #[derive(Debug, Drop)]
 pub struct Load {
-    pub tables: Tables,
+    pub tables: SharedTables,
     pub domains: List<CheckedDomain>,
     pub loads: List<LoadRow>,
     pub shadows: List<ShadowRow>,

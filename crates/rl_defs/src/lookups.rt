@@ -65,7 +65,7 @@ impl Load {
         ensures short { length result.now < 2 ^ 31 }
     {
         match self.domains.get(domain as usize) {
-            Some(checked) => checked.text().lines.as_slice(),
+            Some(checked) => checked.lines(),
             None => &[],
         }
     }
@@ -86,7 +86,7 @@ impl Load {
         ensures { option_copied result ≡ rows.method_of self.now target method }
     {
         let lines = self.lines_of_load(self.load_of_target(target));
-        let row = trait_named(&self.tables, trait_name(lines))?;
+        let row = trait_named(self.tables.get(), trait_name(lines))?;
         row.methods.get(method as usize)
     }
 

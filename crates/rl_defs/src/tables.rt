@@ -1,7 +1,12 @@
 //! Interfaces as rows: structs as the kinds of their cells, and traits as the kinds of their methods.
+ghost use Rattle.std.specs.Prelude.{◌≡◌, IfOk};
 
+use crate::Memory;
 use crate::list::List;
 use crate::name::Name;
+use std::alloc::Global;
+use std::marker::Model;
+use std::sync::Arc;
 
 /// The width of a number. `Bool` holds 0 and 1.
 #[derive(Clone, Copy, Debug, PartialEq, Eq)]
@@ -54,4 +59,47 @@ pub struct TraitRow {
 pub struct Tables {
     pub structs: List<StructRow>,
     pub traits: List<TraitRow>,
+}
+
+/// Tables that a load and its domains share. Contracts see the tables.
+#[derive(Debug, Drop)]
+pub struct SharedTables {
+    tables: Arc<Tables, Global>,
+}
+
+impl Model for SharedTables {
+    ghost use Rattle.rl_defs.specs.declared.tables.Tables.{Tables as Shared};
+
+    ghost Value = { Shared };
+
+    ghost view = { λ t. t.tables.value };
+}
+
+impl SharedTables {
+    /// These tables, for one owner.
+    pub fn new(alloc: Global, tables: Tables) -> Result<SharedTables, Memory>
+        ensures { IfOk result (λ t. t ≡ tables) }
+    {
+        match Arc::new(alloc, tables) {
+            Ok(tables) => Ok(SharedTables { tables }),
+            Err(_) => Err(Memory),
+        }
+    }
+
+    /// The same tables, for one owner more. `Memory` where there are as many owners as can be counted.
+    pub fn share(&self) -> Result<SharedTables, Memory>
+        ensures { IfOk result (λ t. t ≡ self.now) }
+    {
+        match self.tables.clone() {
+            Ok(tables) => Ok(SharedTables { tables }),
+            Err(_) => Err(Memory),
+        }
+    }
+
+    /// The tables.
+    pub fn get(&self) -> &Tables
+        ensures { result.now ≡ self.now }
+    {
+        &self.tables
+    }
 }
