@@ -6,3 +6,4 @@ pub mod FlatteningLaws
 pub mod HoldingLaws
 pub mod CheckedRows
 pub mod SmallRules
+pub mod SmallChecked

@@ -34,8 +34,8 @@ keeps rule (suc (suc (suc (suc (suc (suc place)))))) broken within = absurd (ome
 pub small_keeps : Nowhere (FailsCode small_domain)
 small_keeps l rule fails =
     keeps rule fails.place
-        (subst (λ form. breaks small_domain fails.place form rule ≡ true) (sym (ap form_of fails.here)) fails.broken)
-        (slice_get_within small_domain.lines fails.place _ fails.here)
+    (subst (λ form. breaks small_domain fails.place form rule ≡ true) (sym (ap form_of fails.here)) fails.broken)
+    (slice_get_within small_domain.lines fails.place _ fails.here)
 
 pub small_ordered : IsOneDomain small_domain.lines
 small_ordered = (refl, refl, refl)

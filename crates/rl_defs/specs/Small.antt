@@ -18,6 +18,8 @@ use Rattle.rl_defs.specs.declared.code.DomainLine.TheVariants as form
 use Rattle.rl_defs.specs.declared.code.Register.{Register}
 use Rattle.rl_defs.specs.declared.code.Instr.TheVariants as instr
 use Rattle.rl_defs.specs.declared.code.MathOp.TheVariants as op
+use Rattle.rl_defs.specs.declared.checked.Way.{Way}
+use Rattle.rl_defs.specs.declared.checked.LineRow.{LineRow}
 use Rattle.rl_defs.specs.Texts.{line}
 
 -- what stands before the calls
@@ -76,6 +78,20 @@ small_domain = record {
       ∷ [];
   tables = small_tables;
 }
+
+-- what is kept beside its lines: none of them is a head, none names anything, and no register is emptied
+abbrev pub plain_way : ℕ → Way
+plain_way n = record { line = n; from = 0; to = 0 }
+
+abbrev pub plain_row : ℕ → LineRow
+plain_row n = record { number = 0; of = 0; label = 0; here = plain_way n; jump = plain_way n }
+
+abbrev pub small_rows : List LineRow
+small_rows = plain_row 0 ∷ plain_row 1 ∷ plain_row 2 ∷ plain_row 3 ∷ plain_row 4 ∷ plain_row 5 ∷ []
+
+-- its one function begins behind line 1
+abbrev pub small_entries : List ℕ
+small_entries = 2 ∷ []
 
 -- the load of the calls with these numbers
 abbrev pub small_load : List (ℕ × ℕ) → Load
