@@ -184,7 +184,7 @@ pub fn cause_word(cause: Cause) -> &'static [u8]
 fn struct_name(load: &Load, ty: u32) -> &[u8]
     ensures { result.now ≡ text.struct_name load.now ty }
 {
-    match load.tables.structs.get(ty as usize) {
+    match load.tables.get().structs.get(ty as usize) {
         Some(row) => row.name.bytes(),
         None => b"",
     }

@@ -1,18 +1,19 @@
 //! The load of a small form.
 ghost use Rattle.std.specs.Prelude.{◌≡◌, ◌<◌, [], ◌∷◌, IsTrue, IfOk, map};
 ghost use Rattle.rl_defs.specs.Words.{is_name};
-ghost use Rattle.rl_defs.specs.Small.{small_tables, small_domain, small_load, command_of, number_kind, at_line, register, r0, r1, r2};
+ghost use Rattle.rl_defs.specs.Small.{small_tables, small_domain, small_rows, small_entries, plain_row, small_load, command_of, number_kind, at_line, register, r0, r1, r2};
 ghost use Rattle.rl_defs.specs.declared.code.DomainLine.TheVariants as form;
 ghost use Rattle.rl_defs.specs.declared.code.Instr.TheVariants as instr;
 ghost use Rattle.rl_defs.specs.declared.code.MathOp.TheVariants as op;
 
 use rl_defs::Memory;
 use rl_defs::bundle::Numbered;
+use rl_defs::checked::{CheckedDomain, LineRow, Way};
 use rl_defs::code::{DomainLine, DomainText, Instr, MathOp, Register};
 use rl_defs::list::List;
-use rl_defs::load::{CheckedDomain, ClientRow, Command, Load, LoadRow, ScriptArg};
+use rl_defs::load::{ClientRow, Command, Load, LoadRow, ScriptArg};
 use rl_defs::name::Name;
-use rl_defs::tables::{Kind, MethodRow, Tables, TraitRow, Width};
+use rl_defs::tables::{Kind, MethodRow, SharedTables, Tables, TraitRow, Width};
 use std::alloc::Global;
 
 // The name that a text is.
@@ -95,9 +96,9 @@ fn return_line(alloc: Global) -> Result<DomainLine, Memory>
     Ok(DomainLine::Code(Instr::Ret(results)))
 }
 
-// The domain `Calc`, whose function adds its two parameters.
+// The lines of the domain `Calc`, whose function adds its two parameters.
 fn domain(alloc: Global) -> Result<DomainText, Memory>
-    ensures { IfOk result (λ t. t ≡ small_domain) }
+    ensures { IfOk result (λ t. t.lines ≡ small_domain.lines) }
 {
     let head = DomainLine::Domain(name_of(b"Calc"), name_of(b"Math"));
     let mut lines = list_of(alloc, at_line(6, head))?;
@@ -109,11 +110,46 @@ fn domain(alloc: Global) -> Result<DomainText, Memory>
     Ok(DomainText { lines })
 }
 
-// The domain, checked against the tables.
-fn checked_domain(alloc: Global, tables: &Tables) -> Result<CheckedDomain, Memory>
+// What is kept beside a line that is no head and names nothing.
+fn plain_row(place: u32) -> LineRow
+    ensures { result ≡ plain_row place }
+{
+    let way = Way {
+        line: place,
+        from: 0,
+        to: 0,
+    };
+    LineRow {
+        number: 0,
+        of: 0,
+        label: 0,
+        here: way,
+        jump: way,
+    }
+}
+
+fn rows(alloc: Global) -> Result<Vec<LineRow>, Memory>
+    ensures { IfOk result (λ r. r.items ≡ small_rows) }
+{
+    let mut rows = list_of(alloc, plain_row(0))?;
+    rows.push(plain_row(1))?;
+    rows.push(plain_row(2))?;
+    rows.push(plain_row(3))?;
+    rows.push(plain_row(4))?;
+    rows.push(plain_row(5))?;
+    Ok(rows.into_vec())
+}
+
+// The domain, with the tables that it was checked against. The form is one domain, so that it needs no check.
+#[tactic(auto, using(Rattle.rl_defs.proofs.SmallChecked.small_checked))]
+fn checked_domain(alloc: Global, tables: SharedTables) -> Result<CheckedDomain, Memory>
+    requires { tables ≡ small_tables }
     ensures { IfOk result (λ d. d ≡ small_domain) }
 {
-    CheckedDomain::new(domain(alloc)?, tables)
+    let text = domain(alloc)?;
+    let rows = rows(alloc)?;
+    let entries = list_of(alloc, 2)?.into_vec();
+    Ok(CheckedDomain::new(text, tables, rows, Vec::new(alloc), entries))
 }
 
 // The call that adds two numbers.
@@ -144,8 +180,8 @@ fn commands(alloc: Global, numbers: &[(u64, u64)]) -> Result<List<Command>, Memo
 pub fn load_of(alloc: Global, numbers: &[(u64, u64)]) -> Result<Load, Memory>
     ensures { IfOk result (λ l. l ≡ small_load numbers.now) }
 {
-    let tables = tables(alloc)?;
-    let domain = checked_domain(alloc, &tables)?;
+    let tables = SharedTables::new(alloc, tables(alloc)?)?;
+    let domain = checked_domain(alloc, tables.share()?)?;
     let calc = LoadRow {
         name: name_of(b"calc"),
         domain: 0,
