@@ -6,7 +6,6 @@ use crate::code::DomainText;
 use crate::list::List;
 use crate::name::Name;
 use crate::tables::Tables;
-use std::alloc::Global;
 use std::marker::Model;
 
 /// The text of a domain that keeps the rules of domain code.
