@@ -1,6 +1,7 @@
 //! Words that may name something.
-ghost use Rattle.std.specs.Prelude.{◌≡◌, IfSome, IsSome, ◌↔◌, IsTrue};
+ghost use Rattle.std.specs.Prelude.{◌≡◌, List, ℕ, ◌≤◌, ◌<◌, ◌==◌, length, IfSome, IfOk, IsSome, ◌↔◌, take, IsTrue, ◌&&◌, not};
 ghost use Rattle.std.specs.List.{list_all, list_any};
+ghost use Rattle.std.specs.Cmp.Lexicographic.{pointwise};
 ghost use Rattle.rl_defs.specs.Words.{is_word, starts_word, is_word_byte, same_bytes, is_reserved, is_name};
 
 use std::hash::{Hash, Hasher};
@@ -41,7 +42,7 @@ pub struct Name {
 
 impl Model for Name {
     ghost use Rattle.std.specs.Prelude.{List, ℕ, take, length};
-    ghost use Rattle.rl_defs.specs.Padded.{padded, KeepsName};
+    ghost use Rattle.rl_defs.specs.Padded.{Padded, padded, KeepsName};
 
     ghost Value = { List ℕ };
 
@@ -119,7 +120,7 @@ impl Eq for Name {
 impl Hash for Name {
     ghost use Rattle.std.proofs.Common.{rules};
     ghost use Rattle.std.specs.Hash as fed;
-    ghost use Rattle.std.specs.Cmp.Rules.{hashing};
+    ghost use Rattle.std.specs.Cmp.Rules.{comparing, hashing};
 
     ghost hash_input = { λ n. fed.slice fed.u8 n };
 

@@ -1,5 +1,5 @@
 //! The tokens of a line that are still to be read.
-ghost use Rattle.std.specs.Prelude.{◌≡◌, MatchBool, Some, None, slice_range};
+ghost use Rattle.std.specs.Prelude.{◌≡◌, ℕ, List, MatchBool, Some, None, slice_range};
 ghost use Rattle.rl_text.specs.Reading.{Gives, Passes, name_at, number_at, text_at, mark_at, key_at, word_at, end_at, first_key, behind_first};
 
 use crate::lexeme::Lexeme;

@@ -1,5 +1,5 @@
 //! Lexemes: the tokens of a line, made ready for the readers of line forms.
-ghost use Rattle.std.specs.Prelude.{map};
+ghost use Rattle.std.specs.Prelude.{◌≡◌, ℕ, List, map, length};
 ghost use Rattle.rl_defs.specs.Refusals.{Answers};
 ghost use Rattle.rl_defs.specs.Tokens.{FailsTokens, HasTokens};
 ghost use Rattle.rl_text.specs.Lexemes.{token_of};

@@ -1,5 +1,5 @@
 //! The canonical spelling of a line's tokens.
-ghost use Rattle.std.specs.Prelude.{◌≡◌, ℕ, List, [], ◌∷◌, ◌++◌, OnOk, IsTrue, replicate, map};
+ghost use Rattle.std.specs.Prelude.{◌≡◌, ℕ, ◌+◌, ◌*◌, ◌<◌, List, [], ◌∷◌, ◌++◌, OnOk, IsTrue, OnErr, replicate, map, slice_range};
 ghost use Rattle.std.specs.Fmt.{decimal};
 ghost use Rattle.rl_defs.specs.Canonical.{token_text, opens, closes, is_word_token, is_parenthesis, has_gap, gap, render_behind, render, render_line};
 ghost use Rattle.rl_defs.specs.Tokens as t;

@@ -1,11 +1,12 @@
 //! The token at the front of bytes.
-ghost use Rattle.std.specs.Prelude.{◌≡◌, ℕ, ◌+◌, ◌<◌, ◌≤◌, List, length, drop, IfSome};
+ghost use Rattle.std.specs.Prelude.{◌≡◌, ℕ, ◌+◌, ◌-◌, ◌<◌, ◌≤◌, ◌∷◌, List, length, take, drop, Option, None, Some, IfSome, option_map};
 ghost use Rattle.std.specs.List.{prefix_len, list_all};
 ghost use Rattle.rl_defs.specs.Tokens as bytes;
 ghost use Rattle.rl_defs.specs.Words as words;
 ghost use Rattle.rl_text.specs.Scan.{blanks, is_end, number_at, key_of, word_of, run_of, sign_of, quoted, mark_at, run_at, token_at};
-ghost use Rattle.rl_text.specs.Lexemes.{GivesToken, Scans};
+ghost use Rattle.rl_text.specs.Lexemes.{token_of, GivesToken, Scans};
 ghost use Rattle.rl_text.specs.Steps.{Steps};
+ghost use Rattle.rl_text.specs.Places.{text_of};
 
 use crate::lexeme::Lexeme;
 use crate::number::number_of;

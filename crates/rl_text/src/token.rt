@@ -1,8 +1,9 @@
 //! The tokens of a line, with their places.
-ghost use Rattle.std.specs.Prelude.{◌≡◌, ℕ, length, List, ◌&&◌, nat_le};
+ghost use Rattle.std.specs.Prelude.{◌≡◌, ℕ, ◌≤◌, ◌<◌, ◌^◌, length, List, ◌&&◌, nat_le};
 ghost use Rattle.std.specs.List.{list_all};
 ghost use Rattle.rl_defs.specs.Refusals.{Answers};
 ghost use Rattle.rl_defs.specs.Tokens.{FailsTokens, is_line_byte};
+ghost use Rattle.rl_defs.specs.declared.Refusal.{Refusal as ARefusal};
 ghost use Rattle.rl_text.specs.Lexemes.{token_of};
 ghost use Rattle.rl_text.specs.Places.{text_of, IsWithin};
 ghost use Rattle.rl_text.specs.TokenPlaces.{kind_of, AreTokens};
