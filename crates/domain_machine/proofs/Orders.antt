@@ -1,5 +1,5 @@
 -- Turns in the order of the order list.
-use Rattle.std.proofs.Common.{◌≡◌, ℕ, ◌+◌, ◌<◌, [], ◌++◌, length, Some, refl, sym, ap, ◌∙◌, append_assoc, append-nil, subst, arith, length-append}
+use Rattle.std.proofs.Common.{◌≡◌, ℕ, [], ◌++◌, Some, refl, sym, ap, ◌∙◌, append_assoc, append-nil, subst}
 use Rattle.rl_defs.specs.Run.{Stays, Turns, next_turn}
 use Rattle.rl_defs.specs.Step.{Step}
 use Rattle.rl_defs.specs.declared.load.Load.{Load}
@@ -20,10 +20,3 @@ in_order_more a b c p p' t before next went =
       log = went.log ∙ ap (λ xs. xs ++ went.entries) before.log ∙ append_assoc a.log before.entries went.entries;
       load = went.load ∙ before.load;
     }
-
--- a turn makes the log longer
-pub longer : (a b : Kept) (t : ℕ) → Went t a b → length a.log < length b.log
-longer a b t went =
-    let e : length b.log ≡ length a.log + length went.entries = ap length went.log ∙ length-append a.log went.entries in
-    let n : 0 < length went.entries = rw went.step.all (omega arith) in
-    omega arith

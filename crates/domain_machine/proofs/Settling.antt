@@ -33,11 +33,6 @@ pub stuck : (lines : Lines) (fuel at : ℕ) (regs : work.Registers) (l : Numbere
 stuck lines zero at regs l some is means = absurd (omega arith)
 stuck lines (suc f) at regs l some is means = ap (λ o. work.go_on o (work.settle lines f (at + 1)) (suc f) at regs) (here lines at regs l _ is means)
 
--- no line
-pub past : (lines : Lines) (fuel at : ℕ) (regs : work.Registers) → 0 < fuel → slice_get lines at ≡ None → work.settle lines fuel at regs ≡ work.Nowhere
-past lines zero at regs some is = absurd (omega arith)
-past lines (suc f) at regs some is = ap (λ o. work.go_on o (work.settle lines f (at + 1)) (suc f) at regs) (ap (λ x. work.line_meaning x regs) is)
-
 -- one result more
 held_more : {X Y : Type 0} (f : X → Option Y) (xs : List X) (x : X) (o : Option Y) (old new : List Y) → f x ≡ o → old ≡ filter_map f xs → MatchOption o (new ≡ old) (λ v. new ≡ old ++ v ∷ []) → new ≡ filter_map f (xs ++ x ∷ [])
 held_more f xs x None old new is so_far more = rw (filter_map-append, is, append-nil) (more ∙ so_far)

@@ -1,6 +1,5 @@
 //! The parts of a world, each seen as what the machine's state has.
-ghost use Rattle.std.specs.Prelude.{◌≡◌, ℕ, ◌+◌, ◌-◌, ◌<◌, ◌≤◌, List, [], ◌∷◌, ◌++◌, length, slice_get, OnOk, IfOk, MatchBool, true, false};
-ghost use Rattle.rl_defs.specs.State.{first_instances, first_thread};
+ghost use Rattle.std.specs.Prelude.{◌≡◌, ◌<◌, [], ◌∷◌, ◌++◌, length, IfOk, MatchBool, true, false};
 
 use rl_defs::Memory;
 use rl_defs::frame::{Action, Frame};

@@ -1,8 +1,8 @@
 //! The world.
-ghost use Rattle.std.specs.Prelude.{◌≡◌, ◌≢◌, ℕ, ◌+◌, ◌-◌, ◌<◌, ◌≤◌, ◌^◌, ◌↔◌, List, [], ◌∷◌, length, true, IfOk, IfSome, IsTrue, MatchBool, MatchOption, map, not, slice_get, slice_set, slice_index, ◌++◌};
+ghost use Rattle.std.specs.Prelude.{◌≡◌, ◌≢◌, ℕ, ◌-◌, ◌<◌, ◌≤◌, ◌^◌, ◌↔◌, [], ◌∷◌, length, true, IfOk, IfSome, IsTrue, MatchBool, MatchOption, map, not, slice_get, slice_set, ◌++◌};
 ghost use Rattle.std.specs.List.{slice_index_or};
 ghost use Rattle.std.specs.Option.{option_copied};
-ghost use Rattle.rl_defs.specs.State.{start, stack, row};
+ghost use Rattle.rl_defs.specs.State.{stack, row};
 ghost use Rattle.rl_defs.specs.Crossing.{is_enabled, entered_frame, lent_of};
 ghost use Rattle.rl_defs.specs.Run.{Run, AllDone, next_turn};
 ghost use Rattle.rl_defs.specs.Small.{IsSmallLoad};
@@ -287,9 +287,9 @@ impl World {
     }
 }
 
-/// A call that a client wants to make.
+// A call that a client wants to make.
 #[derive(Debug, Drop)]
-pub struct NextCall {
+struct NextCall {
     target: u32,
     method: u32,
     args: Args,
@@ -492,6 +492,7 @@ fn charge(threads: &mut Vec<Thread>, t: u32, fuel: u32)
     let thread = &mut threads[t as usize - 1];
     thread.fuel = fuel - 1;
 }
+
 // A list of one item.
 fn one<T: Drop>(alloc: Global, item: T) -> Result<Vec<T>, Memory>
     ensures { IfOk result (λ v. v.items ≡ item ∷ []) }

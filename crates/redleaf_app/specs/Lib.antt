@@ -5,3 +5,4 @@ pub mod Outcomes
 pub mod Replies
 pub mod Tallies
 pub mod Parts
+pub mod Subjects

@@ -1,14 +1,12 @@
 -- Parts of the line of an entry and of a reply.
-use Rattle.std.specs.Prelude.{ℕ, List, [], ◌++◌, codes}
+use Rattle.std.specs.Prelude.{ℕ, List, ◌++◌, codes}
 use Rattle.std.specs.Fmt.{decimal}
-use Rattle.rl_defs.specs.declared.entry.Entry.{Entry}
-use Rattle.rl_defs.specs.declared.entry.Entry.TheVariants as entry
 use Rattle.rl_defs.specs.declared.load.Load.{Load}
 use Rattle.rl_defs.specs.declared.values.Value.{Value}
 use Rattle.rl_defs.specs.declared.values.Owner.{Owner}
 use Rattle.rl_defs.specs.declared.values.RpcCode.{RpcCode}
 use Rattle.rl_defs.specs.Domains.{target_name}
-use Rattle.rl_defs.specs.Texts.{word, spaced, act_text, instance_text, object_text, client_text, owner_text, struct_name, code_text, values_text, reply_line}
+use Rattle.rl_defs.specs.Texts.{word, spaced, instance_text, object_text, client_text, owner_text, struct_name, code_text, values_text, reply_line}
 
 -- the number of a call, its target and the instance that it enters
 abbrev pub entered_text : Load → List ℕ → ℕ → ℕ → ℕ → List ℕ
@@ -41,36 +39,3 @@ error_line t k n = reply_line t k (codes "error") (spaced (decimal n))
 -- the reply of a command that gave values
 abbrev pub given_line : Load → ℕ → ℕ → List ℕ → List Value → List ℕ
 given_line L t k says values = reply_line t k says (values_text L values)
-
--- what an entry says after its thread, and nothing of those that tell of a call
-abbrev pub instance_act_text : Load → Entry → List ℕ
-instance_act_text L (entry.Call t c x i m args) = []
-instance_act_text L (entry.Refuse t c k x m args) = []
-instance_act_text L (entry.Ret t c results) = []
-instance_act_text L (entry.Unwound t c) = []
-instance_act_text L e = act_text L e
-
--- the same, and nothing of those that tell of an instance's end or restart
-abbrev pub state_act_text : Load → Entry → List ℕ
-state_act_text L (entry.Again t c x i) = []
-state_act_text L (entry.Reload t x i left) = []
-state_act_text L (entry.Trap t i k) = []
-state_act_text L (entry.Kill t i) = []
-state_act_text L e = instance_act_text L e
-
--- the same, and nothing of those that tell of words, slots or the device
-abbrev pub object_act_text : Load → Entry → List ℕ
-object_act_text L (entry.Wput t i place v) = []
-object_act_text L (entry.Take t i slot o) = []
-object_act_text L (entry.Put t i slot o) = []
-object_act_text L (entry.DevGet t o block) = []
-object_act_text L (entry.DevPut t block o) = []
-object_act_text L e = state_act_text L e
-
--- the same, and nothing of those that tell what happens to an object
-abbrev pub command_act_text : Load → Entry → List ℕ
-command_act_text L (entry.Drop t o) = []
-command_act_text L (entry.Set t o place values) = []
-command_act_text L (entry.Hang t o place v) = []
-command_act_text L (entry.Unhang t o place v) = []
-command_act_text L e = object_act_text L e

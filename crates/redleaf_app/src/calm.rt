@@ -1,10 +1,10 @@
 //! The call that serves every command which waits for nobody.
-ghost use Rattle.std.specs.Prelude.{◌≡◌, ◌≢◌, ℕ, ◌≤◌, ◌⊎◌, ◌↔◌, List, IsTrue, map, string_bytes, IfOk, OnOk};
+ghost use Rattle.std.specs.Prelude.{◌≡◌, ◌≢◌, ◌≤◌, ◌⊎◌, ◌↔◌, IsTrue, map, string_bytes, IfOk};
 ghost use Rattle.std.specs.Io.KnownBytes.{Appends};
 ghost use Rattle.rl_io.specs.Causes.{Rose};
 ghost use Rattle.rl_io.specs.Whole.{ConsumesAtMost, ConsumesMoreThan, AppendsShort};
 ghost use Rattle.rl_defs.specs.Small.{IsSmallLoad};
-ghost use Rattle.redleaf_app.specs.Outcomes.{run_words, IsTextOfRun, IsAnswer, IsRefusal, refusal, WasDone, WasRefused, WasCutOff};
+ghost use Rattle.redleaf_app.specs.Outcomes.{run_words, IsTextOfRun, WasDone, WasRefused, WasCutOff};
 ghost use Rattle.redleaf_app.specs.Replies.{Answers};
 ghost use Rattle.redleaf_app.specs.Statuses.{IsSilent};
 
@@ -25,9 +25,9 @@ const REFUSAL: &[u8] = b"refused line 0 rule 99\n";
 // What the bytes of a bundle are answered.
 #[derive(Drop)]
 enum Reply {
-    /// They were run, and this is the text of the run.
+    // They were run, and this is the text of the run.
     Ran(Vec<u8>),
-    /// They are refused.
+    // They are refused.
     Refused,
 }
 

@@ -1,6 +1,7 @@
 //! What the program does with its input and output: one call from the bytes that come in to the bytes that go out.
 #![tactic(auto)]
 
+mod acts;
 mod calm;
 mod put;
 mod small;

@@ -1,7 +1,7 @@
 //! The load of a small form.
 ghost use Rattle.std.specs.Prelude.{◌≡◌, ◌<◌, [], ◌∷◌, IsTrue, IfOk, map};
 ghost use Rattle.rl_defs.specs.Words.{is_name};
-ghost use Rattle.rl_defs.specs.Small.{small_tables, small_domain, small_rows, small_entries, plain_row, small_load, command_of, number_kind, at_line, register, r0, r1, r2};
+ghost use Rattle.rl_defs.specs.Small.{small_tables, small_domain, small_rows, small_entries, plain_row, small_load, command_of, at_line, register, r0, r1, r2};
 ghost use Rattle.rl_defs.specs.declared.code.DomainLine.TheVariants as form;
 ghost use Rattle.rl_defs.specs.declared.code.Instr.TheVariants as instr;
 ghost use Rattle.rl_defs.specs.declared.code.MathOp.TheVariants as op;

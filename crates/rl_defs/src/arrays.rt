@@ -1,7 +1,6 @@
 //! Short lists that never take memory, one type for each item and size that is used. Contracts see each as the list of its items.
-ghost use Rattle.std.specs.Prelude.{◌≡◌, [], ◌∷◌, ◌++◌, ◌<◌, ◌≤◌, length, slice_get, slice_set, replicate, Some, None};
+ghost use Rattle.std.specs.Prelude.{◌≡◌, [], ◌∷◌, ◌++◌, ◌<◌, ◌≤◌, length, slice_set, replicate, None};
 ghost use Rattle.std.specs.List.{slice_index_or};
-ghost use Rattle.std.specs.Option.{option_copied};
 
 use crate::code::Register;
 use crate::values::{Arg, Value};

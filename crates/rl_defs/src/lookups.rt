@@ -1,9 +1,9 @@
 //! What the numbers of a load stand for.
-ghost use Rattle.std.specs.Prelude.{◌≡◌, ◌+◌, ◌-◌, ◌<◌, ◌≤◌, ◌^◌, length, slice_get};
+ghost use Rattle.std.specs.Prelude.{◌≡◌, ◌+◌, ◌<◌, ◌≤◌, ◌^◌, length};
 ghost use Rattle.std.specs.List.{position_or_len};
 ghost use Rattle.std.specs.Option.{option_copied};
 ghost use Rattle.rl_defs.specs.Domains as rows;
-ghost use Rattle.rl_defs.specs.Domains.{begins_function, names_native, trait_of_form};
+ghost use Rattle.rl_defs.specs.Domains.{begins_function};
 ghost use Rattle.rl_defs.specs.Words.{same_bytes};
 
 use crate::bundle::Numbered;

@@ -17,7 +17,13 @@ pub enum Value {
     Cap(u32),
 }
 
+// What stands at the unused places of a short list.
 impl Default for Value {
+    ghost use Rattle.std.specs.Prelude.{◌≡◌};
+    ghost use Rattle.rl_defs.specs.declared.values.Value.TheVariants as value;
+
+    ghost is_default = { λ v. v ≡ value.Num 0 };
+
     fn default() -> Self {
         Value::Num(0)
     }
@@ -35,7 +41,13 @@ pub enum Arg {
     Cap(u32),
 }
 
+// What stands at the unused places of a short list.
 impl Default for Arg {
+    ghost use Rattle.std.specs.Prelude.{◌≡◌};
+    ghost use Rattle.rl_defs.specs.declared.values.Arg.TheVariants as arg;
+
+    ghost is_default = { λ a. a ≡ arg.Num 0 };
+
     fn default() -> Self {
         Arg::Num(0)
     }

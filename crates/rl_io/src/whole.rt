@@ -18,10 +18,10 @@ pub enum ReadAll {
     Memory,
 }
 
-/// How many bytes the first `take` has room for.
+// How many bytes the first `take` has room for.
 const FIRST_ROOM: usize = 16 * 1024;
 
-/// Makes the list longer by zeros, at least twice as long, so that room for all bytes is made in few steps.
+// Makes the list longer by zeros, at least twice as long, so that room for all bytes is made in few steps.
 fn lengthen(bytes: &mut Vec<u8>) -> Result<(), AllocError>
     ensures longer { OnOk result (vec_len bytes.old < vec_len bytes.new) }
     ensures front { take (vec_len bytes.old) bytes.new.items ≡ bytes.old.items }
