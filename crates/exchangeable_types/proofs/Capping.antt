@@ -1,8 +1,8 @@
 -- Kinds that are put behind others, up to a limit.
-use Rattle.std.proofs.Common.{◌≡◌, ℕ, zero, suc, ◌+◌, ◌*◌, ◌<◌, ◌≤◌, min, List, [], ◌∷◌, ◌++◌, length, inl, inr, refl, sym, ap, subst, ◌∙◌, arith, length-append}
+use Rattle.std.proofs.Common.{◌≡◌, ℕ, zero, suc, ◌+◌, ◌-◌, ◌*◌, ◌<◌, ◌≤◌, min, List, [], ◌∷◌, ◌++◌, length, take, replicate, inl, inr, refl, sym, ap, subst, ◌∙◌, arith, length-append}
 use Rattle.std.proofs.Math.Nat.{mul-le-mul_left}
 use Rattle.std.proofs.lemmas.Bool.{cases_lt}
-use Rattle.std.proofs.lemmas.List.{append-nil}
+use Rattle.std.proofs.lemmas.List.{append-nil, take_all}
 use Rattle.std.specs.Option.{option_to_list}
 use Rattle.std.specs.Prelude.{Option, Some, None}
 use Rattle.rl_defs.specs.declared.tables.Kind.{Kind}
@@ -20,6 +20,21 @@ over_more limit t n list before kinds e same over =
     let le : t ≤ n = omega arith in
     let len : length list ≡ length before = ap length same in
     omega (arith, mul-le-mul_left (length kinds) le, length-append before (copies n kinds), length-copies n kinds)
+
+-- copies of one kind
+pub copies_one : (n : ℕ) (k : Kind) → replicate n k ≡ copies n (k ∷ [])
+copies_one zero k = refl
+copies_one (suc n) k = ap (λ (ks : List Kind). k ∷ ks) (copies_one n k)
+
+-- one kind, so many times behind a list
+pub filled : (list items more : List Kind) (k : Kind) (times whole old : ℕ) → items ≡ list → old ≡ length items → whole ≡ old + times → more ≡ take whole items ++ replicate (whole - old) k → more ≡ list ++ copies times (k ∷ [])
+filled list items more k times whole old same len room is =
+    let count : whole - old ≡ times = omega arith in
+    is
+    ∙ ap (λ (xs : List Kind). xs ++ replicate (whole - old) k) (take_all whole items (omega arith))
+    ∙ ap (λ (n : ℕ). items ++ replicate n k) count
+    ∙ ap (λ (xs : List Kind). items ++ xs) (copies_one times k)
+    ∙ ap (λ (xs : List Kind). xs ++ copies times (k ∷ [])) same
 
 -- where the counted copies are few, they are all
 pub same_copies : (limit t n : ℕ) (kinds : List Kind) → limit ≤ 512 → t ≡ min 513 n → length kinds * t ≤ limit → copies t kinds ≡ copies n kinds

@@ -20,8 +20,8 @@ unmarked_set (z ∷ zs) zero x y e = let same : z ≡ x = cc in omega (arith, ap
 unmarked_set (z ∷ zs) (suc i) x y e = omega (arith, unmarked_set zs i x y e)
 
 -- a struct that was seen
-pub marks_none : (seen : List Bool) (todo : List ℕ) (held : ℕ) → slice_get seen held ≡ Some true → Marks seen seen todo todo held
-marks_none seen todo held e = record {
+pub marks_none : (seen : List Bool) (waiting : List ℕ) (held : ℕ) → slice_get seen held ≡ Some true → Marks seen seen waiting waiting held
+marks_none seen waiting held e = record {
   here = e;
   stays = λ s h. h;
   only = λ s h. inl h;
@@ -32,16 +32,16 @@ marks_none seen todo held e = record {
 }
 
 -- a struct that wasn't
-pub marks_one : (seen new : List Bool) (todo after : List ℕ) (held : ℕ) → slice_get seen held ≡ Some false → new ≡ slice_set seen held true → after ≡ todo ++ held ∷ [] → Marks seen new todo after held
-marks_one seen new todo after held e n a =
-    subst (λ (xs : List Bool). Marks seen xs todo after held) (sym n) (subst (λ (ys : List ℕ). Marks seen (slice_set seen held true) todo ys held) (sym a) (record {
+pub marks_one : (seen new : List Bool) (waiting after : List ℕ) (held : ℕ) → slice_get seen held ≡ Some false → new ≡ slice_set seen held true → after ≡ waiting ++ held ∷ [] → Marks seen new waiting after held
+marks_one seen new waiting after held e n a =
+    subst (λ (xs : List Bool). Marks seen xs waiting after held) (sym n) (subst (λ (ys : List ℕ). Marks seen (slice_set seen held true) waiting ys held) (sym a) (record {
       here = get_set_same seen held true (get_within seen held false e);
       stays = λ s h. get_set_other seen held s true (λ same. apart (sym h ∙ subst (λ (k : ℕ). slice_get seen k ≡ Some false) (sym same) e)) ∙ h;
-      only = λ s h. elim (get_set seen held s true true h) [ inl b ↦ inr (length todo, subst (λ (k : ℕ). slice_get (todo ++ held ∷ []) (length todo) ≡ Some k) (sym b.0) (get_seam todo held [])) | inr b ↦ inl b.1 ];
-      kept = λ s h. (h.0, get_front todo (held ∷ []) h.0 s h.1);
-      more = λ s h. elim (get_last todo held h.0 s h.1) [ inl b ↦ inl (h.0, b) | inr b ↦ inr b.1 ];
+      only = λ s h. elim (get_set seen held s true true h) [ inl b ↦ inr (length waiting, subst (λ (k : ℕ). slice_get (waiting ++ held ∷ []) (length waiting) ≡ Some k) (sym b.0) (get_seam waiting held [])) | inr b ↦ inl b.1 ];
+      kept = λ s h. (h.0, get_front waiting (held ∷ []) h.0 s h.1);
+      more = λ s h. elim (get_last waiting held h.0 s h.1) [ inl b ↦ inl (h.0, b) | inr b ↦ inr b.1 ];
       count = length-set seen held true;
-      falls = omega (arith, unmarked_set seen held false true e, length-append todo (held ∷ []));
+      falls = omega (arith, unmarked_set seen held false true e, length-append waiting (held ∷ []));
     })) where
       apart : Some true ≡ Some false → ⊥
       apart h = cc
@@ -51,26 +51,26 @@ abbrev pub ArePassed : Lines → List Bool → List TypeText → Type 0
 ArePassed lines seen passed = (k : ℕ) (ty : TypeText) → slice_get passed k ≡ Some ty → (holds_rref ty ≡ false) × ((t : ℕ) → struct_held lines ty ≡ Some t → slice_get seen t ≡ Some true)
 
 -- In the middle of a scan: the struct itself counts as still to be looked at.
-pub record Scanning (lines : Lines) (old seen : List Bool) (before todo : List ℕ) (number at : ℕ) : Type 0 where
+pub record Scanning (lines : Lines) (old seen : List Bool) (before waiting : List ℕ) (number at : ℕ) : Type 0 where
   pub count : length seen ≡ length (struct_names lines)
-  pub clean : (s : ℕ) → slice_get seen s ≡ Some true → (StandsIn todo s ⊎ (s ≡ number)) ⊎ IsClean lines seen s
-  pub below : (s : ℕ) → StandsIn todo s → s < length seen
-  pub leads : (first : ℕ) → AllLead lines (before ++ number ∷ []) first → AllLead lines todo first
-  pub falls : 2 * unmarked_count seen + length todo ≤ 2 * unmarked_count old + length before
+  pub clean : (s : ℕ) → slice_get seen s ≡ Some true → (StandsIn waiting s ⊎ (s ≡ number)) ⊎ IsClean lines seen s
+  pub below : (s : ℕ) → StandsIn waiting s → s < length seen
+  pub leads : (first : ℕ) → AllLead lines (before ++ number ∷ []) first → AllLead lines waiting first
+  pub falls : 2 * unmarked_count seen + length waiting ≤ 2 * unmarked_count old + length before
   pub stays : (s : ℕ) → slice_get old s ≡ Some true → slice_get seen s ≡ Some true
   pub passed : List TypeText
   pub split : types_at lines number ≡ passed ++ types_of (fields_of (drop at lines))
   pub are : ArePassed lines seen passed
 
-pub scan_begins : (lines : Lines) (seen : List Bool) (todo : List ℕ) (number place : ℕ) → Searching lines seen (todo ++ number ∷ []) → StartsAt lines number place → Scanning lines seen seen todo todo number (place + 1)
-scan_begins lines seen todo number place h starts = record {
+pub scan_begins : (lines : Lines) (seen : List Bool) (waiting : List ℕ) (number place : ℕ) → Searching lines seen (waiting ++ number ∷ []) → StartsAt lines number place → Scanning lines seen seen waiting waiting number (place + 1)
+scan_begins lines seen waiting number place h starts = record {
   count = h.count;
   clean = λ s e. elim (h.clean s e) [
-    | inl a ↦ elim (get_last todo number a.0 s a.1) [ inl b ↦ inl (inl (a.0, b)) | inr b ↦ inl (inr b.1) ]
+    | inl a ↦ elim (get_last waiting number a.0 s a.1) [ inl b ↦ inl (inl (a.0, b)) | inr b ↦ inl (inr b.1) ]
     | inr a ↦ inr a
   ];
-  below = λ s a. h.below s (a.0, get_front todo (number ∷ []) a.0 s a.1);
-  leads = λ first all s a. all s (a.0, get_front todo (number ∷ []) a.0 s a.1);
+  below = λ s a. h.below s (a.0, get_front waiting (number ∷ []) a.0 s a.1);
+  leads = λ first all s a. all s (a.0, get_front waiting (number ∷ []) a.0 s a.1);
   falls = omega arith;
   stays = λ s e. e;
   passed = [];
@@ -78,8 +78,8 @@ scan_begins lines seen todo number place h starts = record {
   are = λ k ty e. absurd cc;
 }
 
-pub scan_number : (lines : Lines) (seen : List Bool) (todo : List ℕ) (number : ℕ) → Searching lines seen (todo ++ number ∷ []) → number < length (struct_names lines)
-scan_number lines seen todo number h = omega (arith, h.count, h.below number (length todo, get_seam todo number []))
+pub scan_number : (lines : Lines) (seen : List Bool) (waiting : List ℕ) (number : ℕ) → Searching lines seen (waiting ++ number ∷ []) → number < length (struct_names lines)
+scan_number lines seen waiting number h = omega (arith, h.count, h.below number (length waiting, get_seam waiting number []))
 
 split_more : (lines : Lines) (number at : ℕ) (passed : List TypeText) (ty : TypeText) → types_at lines number ≡ passed ++ types_of (fields_of (drop at lines)) → field_type (slice_get lines at) ≡ Some ty → types_at lines number ≡ passed ++ (ty ∷ types_of (fields_of (drop (at + 1) lines)))
 split_more lines number at passed ty split f = split ∙ ap (λ (xs : List TypeText). passed ++ xs) (fields_more lines at ty f)
@@ -88,8 +88,8 @@ field_here : (lines : Lines) (number at : ℕ) (passed : List TypeText) (ty : Ty
 field_here lines number at passed ty split f = subst (λ (xs : List TypeText). slice_get xs (length passed) ≡ Some ty) (sym (split_more lines number at passed ty split f)) (get_seam passed ty (types_of (fields_of (drop (at + 1) lines))))
 
 -- an RRef was found
-pub scan_found : (lines : Lines) (old seen : List Bool) (before todo : List ℕ) (number at : ℕ) (ty : TypeText) → Scanning lines old seen before todo number at → field_type (slice_get lines at) ≡ Some ty → holds_rref ty ≡ true → HasRRef lines number
-scan_found lines old seen before todo number at ty h f is = record { place = length h.passed; ty = ty; here = field_here lines number at h.passed ty h.split f; rref = is }
+pub scan_found : (lines : Lines) (old seen : List Bool) (before waiting : List ℕ) (number at : ℕ) (ty : TypeText) → Scanning lines old seen before waiting number at → field_type (slice_get lines at) ≡ Some ty → holds_rref ty ≡ true → HasRRef lines number
+scan_found lines old seen before waiting number at ty h f is = record { place = length h.passed; ty = ty; here = field_here lines number at h.passed ty h.split f; rref = is }
 
 passed_more : (lines : Lines) (old new : List Bool) (passed : List TypeText) (ty : TypeText) → ((s : ℕ) → slice_get old s ≡ Some true → slice_get new s ≡ Some true) → ArePassed lines old passed → holds_rref ty ≡ false → ((t : ℕ) → struct_held lines ty ≡ Some t → slice_get new t ≡ Some true) → ArePassed lines new (passed ++ ty ∷ [])
 passed_more lines old new passed ty stays are none held k x e = elim (get_last passed ty k x e) [
@@ -101,8 +101,8 @@ split_on : (lines : Lines) (number at : ℕ) (passed : List TypeText) (ty : Type
 split_on lines number at passed ty split f = split_more lines number at passed ty split f ∙ sym (append_assoc passed (ty ∷ []) (types_of (fields_of (drop (at + 1) lines))))
 
 -- a field that holds no struct
-pub scan_passes : (lines : Lines) (old seen : List Bool) (before todo : List ℕ) (number at : ℕ) (ty : TypeText) → Scanning lines old seen before todo number at → field_type (slice_get lines at) ≡ Some ty → holds_rref ty ≡ false → struct_held lines ty ≡ None → Scanning lines old seen before todo number (at + 1)
-scan_passes lines old seen before todo number at ty h f none held = record {
+pub scan_passes : (lines : Lines) (old seen : List Bool) (before waiting : List ℕ) (number at : ℕ) (ty : TypeText) → Scanning lines old seen before waiting number at → field_type (slice_get lines at) ≡ Some ty → holds_rref ty ≡ false → struct_held lines ty ≡ None → Scanning lines old seen before waiting number (at + 1)
+scan_passes lines old seen before waiting number at ty h f none held = record {
   count = h.count;
   clean = h.clean;
   below = h.below;
@@ -115,8 +115,8 @@ scan_passes lines old seen before todo number at ty h f none held = record {
 }
 
 -- a field that holds a struct, which was marked
-pub scan_marks : (lines : Lines) (old seen new : List Bool) (before todo after : List ℕ) (number at held : ℕ) (ty : TypeText) → Scanning lines old seen before todo number at → field_type (slice_get lines at) ≡ Some ty → holds_rref ty ≡ false → struct_held lines ty ≡ Some held → held < length seen → Marks seen new todo after held → Scanning lines old new before after number (at + 1)
-scan_marks lines old seen new before todo after number at held ty h f none is lt m = record {
+pub scan_marks : (lines : Lines) (old seen new : List Bool) (before waiting after : List ℕ) (number at held : ℕ) (ty : TypeText) → Scanning lines old seen before waiting number at → field_type (slice_get lines at) ≡ Some ty → holds_rref ty ≡ false → struct_held lines ty ≡ Some held → held < length seen → Marks seen new waiting after held → Scanning lines old new before after number (at + 1)
+scan_marks lines old seen new before waiting after number at held ty h f none is lt m = record {
   count = m.count ∙ h.count;
   clean = λ s e. elim (m.only s e) [
     | inl a ↦ elim (h.clean s a) [
@@ -144,8 +144,8 @@ scan_marks lines old seen new before todo after number at held ty h f none is lt
   onward first (inr r) = inr (reaches_more lines first number held r field)
 
 -- all fields were looked at
-pub scan_ends : (lines : Lines) (old seen : List Bool) (before todo : List ℕ) (number at : ℕ) → Scanning lines old seen before todo number at → field_type (slice_get lines at) ≡ None → Scanned lines old seen before todo number
-scan_ends lines old seen before todo number at h f =
+pub scan_ends : (lines : Lines) (old seen : List Bool) (before waiting : List ℕ) (number at : ℕ) → Scanning lines old seen before waiting number at → field_type (slice_get lines at) ≡ None → Scanned lines old seen before waiting number
+scan_ends lines old seen before waiting number at h f =
     let all : types_at lines number ≡ h.passed = h.split ∙ ap (λ (xs : List TypeText). h.passed ++ xs) (fields_none lines at f) ∙ append-nil h.passed in
     let clean : IsClean lines seen number = record {
       none = λ r. untrue r.ty (h.are r.place r.ty (subst (λ (xs : List TypeText). slice_get xs r.place ≡ Some r.ty) all r.here)).0 r.rref;
@@ -192,8 +192,8 @@ search_ends lines seen first h here = none_holds lines (λ s. slice_get seen s �
   clean s e = elim (h.clean s e) [ inl a ↦ absurd (empty s a) | inr a ↦ a ]
 
 -- an RRef of a struct that the first leads to
-pub search_found : (lines : Lines) (todo : List ℕ) (first number : ℕ) → AllLead lines (todo ++ number ∷ []) first → HasRRef lines number → HoldsRRef lines first
-search_found lines todo first number all h = elim (all number (length todo, get_seam todo number [])) [
+pub search_found : (lines : Lines) (waiting : List ℕ) (first number : ℕ) → AllLead lines (waiting ++ number ∷ []) first → HasRRef lines number → HoldsRRef lines first
+search_found lines waiting first number all h = elim (all number (length waiting, get_seam waiting number [])) [
   | inl same ↦ inl (subst (λ (k : ℕ). HasRRef lines k) same h)
   | inr r ↦ inr (number, r, h)
 ]

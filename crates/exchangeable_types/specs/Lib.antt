@@ -5,3 +5,4 @@ pub mod Steps
 pub mod Search
 pub mod Rows
 pub mod BadLines
+pub mod Laws

@@ -13,14 +13,14 @@ abbrev pub StandsIn : List ℕ → ℕ → Type 0
 StandsIn xs s = (i : ℕ) × (slice_get xs i ≡ Some s)
 
 -- a struct that was seen is clean, or is still to be looked at
-pub record Searching (lines : Lines) (seen : List Bool) (todo : List ℕ) : Type 0 where
+pub record Searching (lines : Lines) (seen : List Bool) (waiting : List ℕ) : Type 0 where
   pub count : length seen ≡ length (struct_names lines)
-  pub clean : (s : ℕ) → slice_get seen s ≡ Some true → StandsIn todo s ⊎ IsClean lines seen s
-  pub below : (s : ℕ) → StandsIn todo s → s < length seen
+  pub clean : (s : ℕ) → slice_get seen s ≡ Some true → StandsIn waiting s ⊎ IsClean lines seen s
+  pub below : (s : ℕ) → StandsIn waiting s → s < length seen
 
 -- what is to be looked at is the first struct, or the first leads to it
 abbrev pub AllLead : Lines → List ℕ → ℕ → Type 0
-AllLead lines todo first = (s : ℕ) → StandsIn todo s → (s ≡ first) ⊎ Reaches lines first s
+AllLead lines waiting first = (s : ℕ) → StandsIn waiting s → (s ≡ first) ⊎ Reaches lines first s
 
 abbrev pub unmarked : Bool → ℕ
 unmarked true = 0
@@ -32,25 +32,25 @@ unmarked_count [] = 0
 unmarked_count (x ∷ xs) = unmarked x + unmarked_count xs
 
 -- A struct was marked: it is to be looked at, unless it was seen before.
-pub record Marks (old new : List Bool) (todo after : List ℕ) (held : ℕ) : Type 0 where
+pub record Marks (old new : List Bool) (waiting after : List ℕ) (held : ℕ) : Type 0 where
   pub here : slice_get new held ≡ Some true
   pub stays : (s : ℕ) → slice_get old s ≡ Some true → slice_get new s ≡ Some true
   pub only : (s : ℕ) → slice_get new s ≡ Some true → (slice_get old s ≡ Some true) ⊎ StandsIn after s
-  pub kept : (s : ℕ) → StandsIn todo s → StandsIn after s
-  pub more : (s : ℕ) → StandsIn after s → StandsIn todo s ⊎ (s ≡ held)
+  pub kept : (s : ℕ) → StandsIn waiting s → StandsIn after s
+  pub more : (s : ℕ) → StandsIn after s → StandsIn waiting s ⊎ (s ≡ held)
   pub count : length new ≡ length old
-  pub falls : 2 * unmarked_count new + length after ≤ 2 * unmarked_count old + length todo
+  pub falls : 2 * unmarked_count new + length after ≤ 2 * unmarked_count old + length waiting
 
 -- the fields of a struct were looked at, and none is an RRef
-pub record Scanned (lines : Lines) (old new : List Bool) (todo after : List ℕ) (number : ℕ) : Type 0 where
+pub record Scanned (lines : Lines) (old new : List Bool) (waiting after : List ℕ) (number : ℕ) : Type 0 where
   pub searching : Searching lines new after
-  pub leads : (first : ℕ) → AllLead lines (todo ++ number ∷ []) first → AllLead lines after first
+  pub leads : (first : ℕ) → AllLead lines (waiting ++ number ∷ []) first → AllLead lines after first
   pub stays : (s : ℕ) → slice_get old s ≡ Some true → slice_get new s ≡ Some true
-  pub falls : 2 * unmarked_count new + length after ≤ 2 * unmarked_count old + length todo
+  pub falls : 2 * unmarked_count new + length after ≤ 2 * unmarked_count old + length waiting
 
 abbrev pub IsScan : Lines → List Bool → List Bool → List ℕ → List ℕ → ℕ → Bool → Type 0
-IsScan lines old new todo after number true = HasRRef lines number
-IsScan lines old new todo after number false = Scanned lines old new todo after number
+IsScan lines old new waiting after number true = HasRRef lines number
+IsScan lines old new waiting after number false = Scanned lines old new waiting after number
 
 -- whether the struct holds an RRef; where it holds none, all that was seen is clean
 abbrev pub IsSearch : Lines → List Bool → ℕ → Bool → Type 0

@@ -1,5 +1,5 @@
 //! Cells of structs, counted up to a limit.
-ghost use Rattle.std.specs.Prelude.{◌≡◌, ℕ, ◌++◌, ◌<◌, ◌≤◌, min, List, length, IfOk};
+ghost use Rattle.std.specs.Prelude.{◌≡◌, ℕ, ◌+◌, ◌*◌, ◌++◌, ◌∷◌, [], ◌<◌, ◌≤◌, min, List, length, IfOk, OnOk};
 ghost use Rattle.rl_defs.specs.declared.tables.Kind.{Kind as KindValue};
 ghost use Rattle.rl_defs.specs.Flattening.{copies};
 ghost use Rattle.exchangeable_types.specs.Capped.{IsCapped};
@@ -20,24 +20,51 @@ pub enum Cells {
     TooMany,
 }
 
+// The list with so many times these kinds behind it. Room for all of them is made at once.
 fn extended(list: List<Kind>, kinds: &[Kind], times: u32) -> Result<List<Kind>, Memory>
+    requires room { length list + length kinds.now * times ≤ 512 }
     ensures { IfOk result (λ l. l ≡ list ++ copies times kinds.now) }
 {
-    let mut list = list;
-    'times: for _ in 0..times {
-        list = appended(list, kinds)?;
+    if let [kind] = kinds {
+        return filled(list, *kind, times);
     }
-    Ok(list)
+    let mut items = list.into_vec();
+    reserve(&mut items, kinds.len() * times as usize)?;
+    'times: for _ in 0..times {
+        append(&mut items, kinds)?;
+    }
+    Ok(List::from_vec(items))
 }
 
-fn appended(list: List<Kind>, kinds: &[Kind]) -> Result<List<Kind>, Memory>
-    ensures { IfOk result (λ l. l ≡ list ++ kinds.now) }
+// The list with so many times this kind behind it.
+fn filled(list: List<Kind>, kind: Kind, times: u32) -> Result<List<Kind>, Memory>
+    requires room { length list + times ≤ 512 }
+    ensures { IfOk result (λ l. l ≡ list ++ copies times (kind ∷ [])) }
 {
-    let mut list = list;
-    'kinds: for kind in kinds {
-        list.push(*kind)?;
+    let mut items = list.into_vec();
+    match items.resize(items.len() + times as usize, kind) {
+        Ok(()) => Ok(List::from_vec(items)),
+        Err(_) => Err(Memory),
     }
-    Ok(list)
+}
+
+// Makes room for so many kinds more.
+fn reserve(items: &mut Vec<Kind>, more: usize) -> Result<(), Memory>
+    ensures { items.new.items ≡ items.old.items }
+{
+    match items.reserve(more) {
+        Ok(()) => Ok(()),
+        Err(_) => Err(Memory),
+    }
+}
+
+fn append(items: &mut Vec<Kind>, kinds: &[Kind]) -> Result<(), Memory>
+    ensures { OnOk result (items.new.items ≡ items.old.items ++ kinds.now) }
+{
+    match items.extend_from_slice(kinds) {
+        Ok(()) => Ok(()),
+        Err(_) => Err(Memory),
+    }
 }
 
 /// The cells with so many times these kinds behind them, up to the limit.

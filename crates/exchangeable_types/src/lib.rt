@@ -3,6 +3,7 @@
 
 pub mod cells;
 pub mod check;
+pub mod laws;
 pub mod part;
 pub mod rows;
 pub mod search;

@@ -1,7 +1,7 @@
 //! An interface part with look-ups of its names.
-ghost use Rattle.std.specs.Prelude.{◌≡◌, ℕ, ◌^◌, ◌<◌, List, length, nat_eq, OnOk, IfOk, slice_get};
+ghost use Rattle.std.specs.Prelude.{◌≡◌, ℕ, ◌^◌, ◌<◌, List, Some, length, nat_eq, OnOk, IfOk, slice_get};
 ghost use Rattle.std.specs.Cmp.Lexicographic.{pointwise};
-ghost use Rattle.indexmap.specs.IndexMap.{get};
+ghost use Rattle.indexmap.specs.IndexMap.{get, Updates};
 ghost use Rattle.rl_defs.specs.Interfaces.{place_of, struct_name, trait_name, struct_names, trait_names, struct_number, trait_number};
 ghost use Rattle.exchangeable_types.specs.Numbering.{noted, starts_from};
 
@@ -81,15 +81,23 @@ pub fn trait_name(line: &IdlLine) -> Option<Name>
     }
 }
 
-// Notes a name with its number, unless it is there.
+// Gives a name that is there another number.
+fn put_back(table: &mut NameTable, name: &Name, number: u32) -> Result<(), Memory>
+    ensures { OnOk result (Updates (pointwise nat_eq) table.old table.new name.now (Some number)) }
+{
+    match table.insert(*name, number) {
+        Ok(_) => Ok(()),
+        Err(_) => Err(Memory),
+    }
+}
+
+// Notes a name with its number, unless it is there. Most names are new, so it is put first, and put back where it was there.
 fn note(table: &mut NameTable, name: &Name, number: u32) -> Result<(), Memory>
     ensures { OnOk result ((q : List ℕ) → get (pointwise nat_eq) table.new q ≡ noted (get (pointwise nat_eq) table.old) name.now number q) }
 {
-    if table.get(name).is_some() {
-        return Ok(());
-    }
     match table.insert(*name, number) {
-        Ok(_) => Ok(()),
+        Ok(None) => Ok(()),
+        Ok(Some(earlier)) => put_back(table, name, earlier),
         Err(_) => Err(Memory),
     }
 }

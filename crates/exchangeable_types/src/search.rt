@@ -10,24 +10,24 @@ use rl_defs::Memory;
 use std::alloc::Global;
 
 // Marks a struct to be looked at, unless it was seen.
-fn mark(seen: &mut Vec<bool>, todo: &mut Vec<u32>, held: u32) -> Result<(), Memory>
+fn mark(seen: &mut Vec<bool>, waiting: &mut Vec<u32>, held: u32) -> Result<(), Memory>
     requires { held < length seen.old.items }
-    ensures { OnOk result (Marks seen.old.items seen.new.items todo.old.items todo.new.items held) }
+    ensures { OnOk result (Marks seen.old.items seen.new.items waiting.old.items waiting.new.items held) }
 {
     if seen.as_slice()[held as usize] {
         return Ok(());
     }
     seen[held as usize] = true;
-    match todo.push(held) {
+    match waiting.push(held) {
         Ok(()) => Ok(()),
         Err(_) => Err(Memory),
     }
 }
 
 // Looks at the fields of a struct: whether one is an `RRef`, and which structs they hold.
-fn scan(part: &Part, seen: &mut Vec<bool>, todo: &mut Vec<u32>, number: u32) -> Result<bool, Memory>
-    requires { Searching part.now.lines.now seen.old.items (todo.old.items ++ number ∷ []) }
-    ensures { IfOk result (IsScan part.now.lines.now seen.old.items seen.new.items todo.old.items todo.new.items number) }
+fn scan(part: &Part, seen: &mut Vec<bool>, waiting: &mut Vec<u32>, number: u32) -> Result<bool, Memory>
+    requires { Searching part.now.lines.now seen.old.items (waiting.old.items ++ number ∷ []) }
+    ensures { IfOk result (IsScan part.now.lines.now seen.old.items seen.new.items waiting.old.items waiting.new.items number) }
 {
     let mut at = start_of(part, number) + 1;
     'fields: while let Some(ty) = field_at(part.lines, at) {
@@ -35,7 +35,7 @@ fn scan(part: &Part, seen: &mut Vec<bool>, todo: &mut Vec<u32>, number: u32) -> 
             return Ok(true);
         }
         if let Some(held) = struct_held(part, ty) {
-            mark(seen, todo, held)?;
+            mark(seen, waiting, held)?;
         }
         at += 1;
     }
@@ -49,10 +49,10 @@ pub fn search(alloc: Global, part: &Part, seen: &mut Vec<bool>, first: u32) -> R
     requires below { first < length (struct_names part.now.lines.now) }
     ensures { IfOk result (IsSearch part.now.lines.now seen.new.items first) }
 {
-    let mut todo = Vec::new(alloc);
-    mark(seen, &mut todo, first)?;
-    'search: while let Some(number) = todo.pop() {
-        if scan(part, seen, &mut todo, number)? {
+    let mut waiting = Vec::new(alloc);
+    mark(seen, &mut waiting, first)?;
+    'search: while let Some(number) = waiting.pop() {
+        if scan(part, seen, &mut waiting, number)? {
             return Ok(true);
         }
     }

@@ -4,6 +4,7 @@ pub mod LineTakes
 pub mod LineAgain
 pub mod IdlLaws
 pub mod PartRules
+pub mod PartNumbers
 pub mod WriteLaws
 pub mod RenderSpells
 pub mod WriteAgain

@@ -1,5 +1,5 @@
 //! What holds of the forms of the interface part, whoever reads or writes them.
-ghost use Rattle.idl_syntax.specs.Laws.{OneForm, SkippedIsNoForm, OnePart};
+ghost use Rattle.idl_syntax.specs.Laws.{OneForm, SkippedIsNoForm, OnePart, PartRises, PartIsShort};
 
 /// No two forms share a spelling, and a line without tokens is none.
 pub fn one_form()
@@ -10,4 +10,10 @@ pub fn one_form()
 /// The texts of a part stand for one list of lines at most.
 pub fn one_part()
     ensures { OnePart }
+{}
+
+/// The lines that the texts of a part stand for are numbered upwards, and are no more than the texts.
+pub fn part_rises()
+    ensures rises { PartRises }
+    ensures short { PartIsShort }
 {}

@@ -15,6 +15,7 @@ use Rattle.rl_defs.specs.Interfaces.{Lines, MethodText, TraitText, method_before
 use Rattle.rl_defs.specs.MethodRules.{IsMethodRow, AreMethodRows, IsTraitRow, AreTraitRows, FailsMethods}
 use Rattle.rl_defs.proofs.Places.{drop_at, drop_past}
 use Rattle.proxy_tables.specs.Built.{AllFit, MethodsTo, TraitsTo}
+use Rattle.proxy_tables.proofs.Scanning.{method_at, many_params, many_results}
 
 methods_push : (lines : Lines) (ms : List MethodText) (rows : List MethodRow) (m : MethodText) (row : MethodRow) → AreMethodRows lines ms rows → IsMethodRow lines m row → AreMethodRows lines (ms ++ m ∷ []) (rows ++ row ∷ [])
 methods_push lines [] [] m row h is = (is, tt)
@@ -118,6 +119,6 @@ traits_end lines rows at h e = subst (λ (ts : List TraitText). AreTraitRows lin
 -- where no rule fails, all methods fit
 pub all_fit : (idl : Idl) → Nowhere (FailsMethods idl) → AllFit idl.lines
 all_fit idl none = record {
-  params = λ k n name params outcome here x. none n 23 (inr (inr (inr (refl, inl (record { method = record { name = name; params = params; result = outcome; here = record { place = k; here = here } }; kinds = x.kinds; flat = x.flat; many = x.many })))));
-  results = λ k n name params outcome here x. none n 23 (inr (inr (inr (refl, inr (record { method = record { name = name; params = params; result = outcome; here = record { place = k; here = here } }; kinds = x.kinds; flat = x.flat; many = x.many })))));
+  params = λ k n name params outcome here x. none n 23 (inr (inr (inr (refl, inl (many_params idl.lines n (method_at idl.lines k n name params outcome here) x)))));
+  results = λ k n name params outcome here x. none n 23 (inr (inr (inr (refl, inr (many_results idl.lines n (method_at idl.lines k n name params outcome here) x)))));
 }

@@ -3,3 +3,4 @@ pub mod Types
 pub mod Moving
 pub mod Scanning
 pub mod Building
+pub mod TableLaws

@@ -14,10 +14,10 @@ use Rattle.rl_defs.specs.declared.idl.ResultText.{ResultText}
 use Rattle.rl_defs.specs.declared.tables.Kind.{Kind}
 use Rattle.rl_defs.specs.declared.tables.Kind.TheVariants as kind
 use Rattle.rl_defs.specs.Refusals.{IsFirst, Nowhere, Answers}
-use Rattle.rl_defs.specs.Interfaces.{Lines, Rises}
-use Rattle.rl_defs.specs.MethodRules.{MethodAt, FailsMethods}
+use Rattle.rl_defs.specs.Interfaces.{Lines, Rises, param_types, result_types}
+use Rattle.rl_defs.specs.MethodRules.{MethodAt, HasTooManyParams, HasTooManyResults, FailsMethods}
 use Rattle.rl_defs.proofs.Places.{get_within}
-use Rattle.proxy_tables.specs.Rules.{is_own, FailsMethod}
+use Rattle.proxy_tables.specs.Rules.{is_own, Exceeds, FailsMethod}
 use Rattle.proxy_tables.specs.Scan.{IsLowestAt, is_mark, MarksAt, NoneTo}
 
 own_place : (kinds : List Kind) → list_any is_own kinds ≡ true → (i : ℕ) × (held : ℕ) × (slice_get kinds i ≡ Some (kind.Own held))
@@ -53,16 +53,36 @@ same_form lines j k n a b same p q = forms (record { line = n; form = a }) (reco
   forms : (x y : Numbered IdlLine) → Some x ≡ Some y → x.form ≡ y.form
   forms x y e = let is : x ≡ y = cc in ap (λ (z : Numbered IdlLine). z.form) is
 
+abbrev pub method_at : (lines : Lines) (k n : ℕ) (name : List ℕ) (params : List Param) (outcome : ResultText) → slice_get lines k ≡ Some (record { line = n; form = form.Method name params outcome }) → MethodAt lines n
+method_at lines k n name params outcome here = record { name = name; params = params; result = outcome; here = record { place = k; here = here } }
+
+pub many_params : (lines : Lines) (n : ℕ) (m : MethodAt lines n) → Exceeds lines (param_types m.params) 8 → HasTooManyParams lines n
+many_params lines n m x = record { method = m; kinds = x.kinds; flat = x.flat; many = x.many }
+
+pub many_results : (lines : Lines) (n : ℕ) (m : MethodAt lines n) → Exceeds lines (result_types m.result) 4 → HasTooManyResults lines n
+many_results lines n m x = record { method = m; kinds = x.kinds; flat = x.flat; many = x.many }
+
 -- a rule that fails at the method fails at its line
 pub fails_at : (idl : Idl) (k n : ℕ) (marked : Bool) (name : List ℕ) (params : List Param) (outcome : ResultText) (r : ℕ) → MarksAt idl.lines k marked → slice_get idl.lines k ≡ Some (record { line = n; form = form.Method name params outcome }) → FailsMethod idl.lines marked params outcome r → FailsMethods idl n r
-fails_at idl k n marked name params outcome r marks here (inl a) = inl (a.0, record { method = record { name = name; params = params; result = outcome; here = record { place = k; here = here } }; plain = a.1 })
-fails_at idl k n marked name params outcome r marks here (inr (inl a)) = inr (inl (a.0, record { method = record { name = name; params = params; result = outcome; here = record { place = k; here = here } }; lent = a.1 }))
+fails_at idl k n marked name params outcome r marks here (inl a) = inl (a.0, record { method = method_at idl.lines k n name params outcome here; plain = a.1 })
+fails_at idl k n marked name params outcome r marks here (inr (inl a)) = inr (inl (a.0, record { method = method_at idl.lines k n name params outcome here; lent = a.1 }))
 fails_at idl k n marked name params outcome r marks here (inr (inr (inl a))) =
     let mark = marks.mark a.1.0 in
     let own = own_place a.1.1.kinds a.1.1.own in
-    inr (inr (inl (a.0, record { method = record { name = name; params = params; result = outcome; here = record { place = k; here = here } }; mark = mark.0; before = mark.2; marks = mark.1; marked = mark.3; kinds = a.1.1.kinds; flat = a.1.1.flat; place = own.0; held = own.1; moved = own.2 })))
-fails_at idl k n marked name params outcome r marks here (inr (inr (inr (e, inl x)))) = inr (inr (inr (e, inl (record { method = record { name = name; params = params; result = outcome; here = record { place = k; here = here } }; kinds = x.kinds; flat = x.flat; many = x.many }))))
-fails_at idl k n marked name params outcome r marks here (inr (inr (inr (e, inr x)))) = inr (inr (inr (e, inr (record { method = record { name = name; params = params; result = outcome; here = record { place = k; here = here } }; kinds = x.kinds; flat = x.flat; many = x.many }))))
+    inr (inr (inl (a.0, record {
+      method = method_at idl.lines k n name params outcome here;
+      mark = mark.0;
+      before = mark.2;
+      marks = mark.1;
+      marked = mark.3;
+      kinds = a.1.1.kinds;
+      flat = a.1.1.flat;
+      place = own.0;
+      held = own.1;
+      moved = own.2;
+    })))
+fails_at idl k n marked name params outcome r marks here (inr (inr (inr (e, inl x)))) = inr (inr (inr (e, inl (many_params idl.lines n (method_at idl.lines k n name params outcome here) x))))
+fails_at idl k n marked name params outcome r marks here (inr (inr (inr (e, inr x)))) = inr (inr (inr (e, inr (many_results idl.lines n (method_at idl.lines k n name params outcome here) x))))
 
 abbrev IsMethod : IdlLine → Lines → Bool → ℕ → Type 0
 IsMethod f lines marked r = (name : List ℕ) × (params : List Param) × (outcome : ResultText) × (f ≡ form.Method name params outcome) × FailsMethod lines marked params outcome r

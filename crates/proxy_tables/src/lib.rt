@@ -4,6 +4,7 @@
 
 pub mod build;
 pub mod flat;
+pub mod laws;
 pub mod method;
 pub mod rules;
 pub mod scan;

@@ -6,10 +6,12 @@ ghost use Rattle.proxy_tables.specs.Names.{method_names};
 use rl_defs::name::Name;
 use rl_defs::tables::{MethodRow, Tables};
 
-/// The number of the method of a trait that has this name, from 0. None exactly where the trait has no such method.
+/// The number of the method of a trait that has this name, from 0. None exactly where the trait has no such method. The trait has
+/// fewer than 2^32 methods, as [`few_methods`](crate::laws::few_methods) says of the tables of a part with fewer than 2^32 lines.
 pub fn method(tables: &Tables, t: u32, name: &Name) -> Option<u32>
-    requires { t < length tables.now.traits }
-    ensures { IfSome (slice_get tables.now.traits t) (λ row. length row.methods < 2 ^ 32 → result ≡ place_of name.now (method_names row.methods)) }
+    requires there { t < length tables.now.traits }
+    requires few { IfSome (slice_get tables.now.traits t) (λ row. length row.methods < 2 ^ 32) }
+    ensures { IfSome (slice_get tables.now.traits t) (λ row. result ≡ place_of name.now (method_names row.methods)) }
 {
     place(
         tables.traits.as_slice()[t as usize].methods.as_slice(),
@@ -18,14 +20,15 @@ pub fn method(tables: &Tables, t: u32, name: &Name) -> Option<u32>
 }
 
 fn place(methods: &[MethodRow], name: &Name) -> Option<u32>
-    ensures { length methods.now < 2 ^ 32 → result ≡ place_of name.now (method_names methods.now) }
+    requires { length methods.now < 2 ^ 32 }
+    ensures { result ≡ place_of name.now (method_names methods.now) }
 {
     let mut number = 0u32;
     'methods: for method in methods {
         if method.name == *name {
             return Some(number);
         }
-        number = number.saturating_add(1);
+        number += 1;
     }
     None
 }

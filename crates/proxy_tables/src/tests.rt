@@ -136,10 +136,10 @@ fn rows(rt: HostRuntime) -> Result<(), Fail> {
     match tables(alloc, part(alloc, lent, ResultText::Rpc(List::new(alloc)))?)? {
         Ok(tables) => {
             assert_eq!(rt; tables.traits.len(), 1);
-            assert_eq!(rt; method(&tables, 0, &name(b"f")?), Some(0));
-            assert_eq!(rt; method(&tables, 0, &name(b"g")?), None);
             let methods = tables.traits.as_slice()[0].methods.as_slice();
             assert_eq!(rt; methods.len(), 1);
+            assert_eq!(rt; method(&tables, 0, &name(b"f")?), Some(0));
+            assert_eq!(rt; method(&tables, 0, &name(b"g")?), None);
             assert!(rt; methods[0].idempotent);
             assert_eq!(rt; methods[0].params.as_slice().len(), 1);
             assert_eq!(rt; methods[0].params.as_slice()[0], Kind::Lent(0));

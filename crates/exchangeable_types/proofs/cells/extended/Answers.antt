@@ -6,7 +6,7 @@ use Rattle.exchangeable_types.proofs.cells.extended.Goals as goal
 
 pub times-preserved : goal.times-preserved
 times-preserved c =
-    c.in_ok-list.ensures
+    c.in_ok-append.ensures
     ∙ ap (λ (xs : List Kind). xs ++ c.args.kinds.now) c.times.invariant
     ∙ append_assoc c.args.list (copies c.times.counter c.args.kinds.now) c.args.kinds.now
     ∙ ap (λ (xs : List Kind). c.args.list ++ xs) (sym (copies_more c.times.counter c.args.kinds.now))

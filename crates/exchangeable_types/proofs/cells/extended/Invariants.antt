@@ -3,4 +3,4 @@ use Rattle.rl_defs.specs.Flattening.{copies}
 use Rattle.exchangeable_types.proofs.cells.extended.Given as goal
 
 abbrev pub invariant-times : goal.invariant-times
-invariant-times l = l.list ≡ l.fn.list ++ copies l.counter l.kinds
+invariant-times l = l.items.items ≡ l.fn.list ++ copies l.counter l.kinds

@@ -5,10 +5,10 @@ use Rattle.exchangeable_types.proofs.search.search.Given as goal
 
 abbrev pub invariant-search : goal.invariant-search
 invariant-search l = record {
-  searching : Searching l.part.lines.now l.seen.items l.todo.items;
-  leads : AllLead l.part.lines.now l.todo.items l.first;
+  searching : Searching l.part.lines.now l.seen.items l.waiting.items;
+  leads : AllLead l.part.lines.now l.waiting.items l.first;
   here : slice_get l.seen.items l.first ≡ Some true;
 }
 
 abbrev pub decreases-search : goal.decreases-search
-decreases-search l = 2 * unmarked_count l.seen.items + length l.todo.items
+decreases-search l = 2 * unmarked_count l.seen.items + length l.waiting.items

@@ -6,6 +6,6 @@ use Rattle.proxy_tables.proofs.method.place.Given as goal
 
 abbrev pub invariant-methods : goal.invariant-methods
 invariant-methods l = record {
-  number : length l.methods < 2 ^ 32 → l.number ≡ l.method-index;
+  number : l.number ≡ l.method-index;
   rest : place_of l.name (method_names l.methods) ≡ shifted l.method-index (place_of l.name (method_names (drop l.method-index l.methods)));
 }
