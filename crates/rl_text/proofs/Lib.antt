@@ -17,3 +17,4 @@ pub mod MoreLaws
 pub mod FormLaws
 pub mod ListPlaces
 pub mod PartRules
+pub mod DecimalLaws
