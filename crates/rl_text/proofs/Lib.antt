@@ -18,3 +18,4 @@ pub mod FormLaws
 pub mod ListPlaces
 pub mod PartRules
 pub mod DecimalLaws
+pub mod KeyLaws
