@@ -6,6 +6,5 @@ pub mod IdlLaws
 pub mod PartRules
 pub mod PartNumbers
 pub mod WriteLaws
-pub mod RenderSpells
 pub mod WriteAgain
 pub mod PartAgain

@@ -6,3 +6,8 @@ pub mod TokenPlaces
 pub mod Steps
 pub mod Reading
 pub mod Many
+pub mod Whole
+pub mod Writable
+pub mod Pieces
+pub mod Forms
+pub mod PartSteps
