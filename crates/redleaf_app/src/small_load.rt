@@ -141,7 +141,7 @@ fn rows(alloc: Global) -> Result<Vec<LineRow>, Memory>
 }
 
 // The domain, with the tables that it was checked against. The form is one domain, so that it needs no check.
-#[tactic(auto, using(Rattle.rl_defs.proofs.SmallChecked.small_checked))]
+#[tactic(auto, using(rl_defs::proofs::SmallChecked::small_checked))]
 fn checked_domain(alloc: Global, tables: SharedTables) -> Result<CheckedDomain, Memory>
     requires { tables ≡ small_tables }
     ensures { IfOk result (λ d. d ≡ small_domain) }

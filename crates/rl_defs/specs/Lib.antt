@@ -40,3 +40,5 @@ pub mod Instructions
 pub mod CodeFits
 pub mod LineRows
 pub mod Checked
+pub mod BundleForms
+pub mod BundleParts
