@@ -5,9 +5,11 @@ use crate::build::build;
 use crate::method::method;
 use exchangeable_types::check::check_types;
 use rl_defs::bundle::Numbered;
+use rl_defs::copies::Copies;
 use rl_defs::idl::{Base, Idl, IdlLine, Param, ResultText, TypeText, Wrap};
 use rl_defs::list::List;
 use rl_defs::name::Name;
+use rl_defs::same::Same;
 use rl_defs::tables::{Kind, Tables, Width};
 use rl_defs::{LoadFault, Memory};
 use std::alloc::Global;
@@ -143,6 +145,10 @@ fn rows(rt: HostRuntime) -> Result<(), Fail> {
             assert!(rt; methods[0].idempotent);
             assert_eq!(rt; methods[0].params.as_slice().len(), 1);
             assert_eq!(rt; methods[0].params.as_slice()[0], Kind::Lent(0));
+            let mut other = tables.copy(alloc)?;
+            assert!(rt; tables.same(&other));
+            other.traits = List::new(alloc);
+            assert!(rt; !tables.same(&other));
         }
         Err(_) => assert!(rt; false),
     }
