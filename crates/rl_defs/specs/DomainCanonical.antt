@@ -1,15 +1,14 @@
 -- The canonical text of a domain.
-use Rattle.std.specs.Prelude.{ℕ, List, [], ◌∷◌, ◌++◌}
+use Rattle.std.specs.Prelude.{ℕ, ◌-◌, List, [], ◌∷◌, ◌++◌}
 use Rattle.rl_defs.specs.declared.code.DomainLine.{DomainLine}
 use Rattle.rl_defs.specs.declared.code.DomainLine.TheVariants as line
 use Rattle.rl_defs.specs.Domains.{Lines}
 use Rattle.rl_defs.specs.DomainForms.{spell_line}
 use Rattle.rl_defs.specs.Canonical.{render_line}
 
--- how many blocks are open round a line, where so many are open behind the line before it
+-- how many blocks are open round a line, where so many are open behind the line before it; a `}` stands outside the block that it closes
 abbrev pub depth_of : ℕ → DomainLine → ℕ
-depth_of 2 line.Close = 1
-depth_of open_blocks line.Close = 0
+depth_of open_blocks line.Close = open_blocks - 1
 depth_of open_blocks form = open_blocks
 
 -- how many blocks are open behind a line
