@@ -21,6 +21,11 @@ over_more limit t n list before kinds e same over =
     let len : length list ≡ length before = ap length same in
     omega (arith, mul-le-mul_left (length kinds) le, length-append before (copies n kinds), length-copies n kinds)
 
+-- copies of no kind
+pub no_copies : (list kinds : List Kind) (n : ℕ) → length kinds < 1 → list ≡ list ++ copies n kinds
+no_copies list [] n none = sym (append-nil list) ∙ ap (λ (ks : List Kind). list ++ ks) (sym (copies-nil n))
+no_copies list (k ∷ ks) n none = absurd (omega (arith, none))
+
 -- copies of one kind
 pub copies_one : (n : ℕ) (k : Kind) → replicate n k ≡ copies n (k ∷ [])
 copies_one zero k = refl

@@ -8,3 +8,4 @@ pub mod Searches
 pub mod RowLaws
 pub mod RowSteps
 pub mod Checks
+pub mod TypesOnce

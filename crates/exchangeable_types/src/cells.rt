@@ -20,14 +20,23 @@ pub enum Cells {
     TooMany,
 }
 
-// The list with so many times these kinds behind it. Room for all of them is made at once.
+// The list with so many times these kinds behind it.
 fn extended(list: List<Kind>, kinds: &[Kind], times: u32) -> Result<List<Kind>, Memory>
     requires room { length list + length kinds.now * times ≤ 512 }
     ensures { IfOk result (λ l. l ≡ list ++ copies times kinds.now) }
 {
-    if let [kind] = kinds {
-        return filled(list, *kind, times);
+    match kinds {
+        [] => Ok(list),
+        [kind] => filled(list, *kind, times),
+        _ => repeated(list, kinds, times),
     }
+}
+
+// The same, for several kinds. Room for all of them is made at once.
+fn repeated(list: List<Kind>, kinds: &[Kind], times: u32) -> Result<List<Kind>, Memory>
+    requires room { length list + length kinds.now * times ≤ 512 }
+    ensures { IfOk result (λ l. l ≡ list ++ copies times kinds.now) }
+{
     let mut items = list.into_vec();
     reserve(&mut items, kinds.len() * times as usize)?;
     'times: for _ in 0..times {

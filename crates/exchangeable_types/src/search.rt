@@ -25,7 +25,12 @@ fn mark(seen: &mut Vec<bool>, waiting: &mut Vec<u32>, held: u32) -> Result<(), M
 }
 
 // Looks at the fields of a struct: whether one is an `RRef`, and which structs they hold.
-fn scan(part: &Part, seen: &mut Vec<bool>, waiting: &mut Vec<u32>, number: u32) -> Result<bool, Memory>
+fn scan(
+    part: &Part,
+    seen: &mut Vec<bool>,
+    waiting: &mut Vec<u32>,
+    number: u32,
+) -> Result<bool, Memory>
     requires { Searching part.now.lines.now seen.old.items (waiting.old.items ++ number ∷ []) }
     ensures { IfOk result (IsScan part.now.lines.now seen.old.items seen.new.items waiting.old.items waiting.new.items number) }
 {

@@ -1,12 +1,5 @@
-use Rattle.std.proofs.Common.{◌++◌, List, sym, ap, ◌∙◌, append_assoc}
-use Rattle.rl_defs.specs.declared.tables.Kind.{Kind}
-use Rattle.rl_defs.specs.Flattening.{copies}
-use Rattle.rl_defs.proofs.FlatteningLaws.{copies_more}
+use Rattle.exchangeable_types.proofs.Capping.{no_copies}
 use Rattle.exchangeable_types.proofs.cells.extended.Goals as goal
 
-pub times-preserved : goal.times-preserved
-times-preserved c =
-    c.in_ok-append.ensures
-    ∙ ap (λ (xs : List Kind). xs ++ c.args.kinds.now) c.times.invariant
-    ∙ append_assoc c.args.list (copies c.times.counter c.args.kinds.now) c.args.kinds.now
-    ∙ ap (λ (xs : List Kind). c.args.list ++ xs) (sym (copies_more c.times.counter c.args.kinds.now))
+pub returns-in-empty : goal.returns-in-empty
+returns-in-empty c = no_copies c.args.list c.args.kinds.now c.args.times c.in-empty.len_below
