@@ -42,3 +42,7 @@ pub mod LineRows
 pub mod Checked
 pub mod BundleForms
 pub mod BundleParts
+pub mod BundleNames
+pub mod PlanRules
+pub mod ScriptRules
+pub mod Acceptance
