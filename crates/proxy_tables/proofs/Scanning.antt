@@ -69,18 +69,21 @@ fails_at idl k n marked name params outcome r marks here (inr (inl a)) = inr (in
 fails_at idl k n marked name params outcome r marks here (inr (inr (inl a))) =
     let mark = marks.mark a.1.0 in
     let own = own_place a.1.1.kinds a.1.1.own in
-    inr (inr (inl (a.0, record {
-      method = method_at idl.lines k n name params outcome here;
-      mark = mark.0;
-      before = mark.2;
-      marks = mark.1;
-      marked = mark.3;
-      kinds = a.1.1.kinds;
-      flat = a.1.1.flat;
-      place = own.0;
-      held = own.1;
-      moved = own.2;
-    })))
+    inr (inr (inl (
+      a.0,
+      record {
+        method = method_at idl.lines k n name params outcome here;
+        mark = mark.0;
+        before = mark.2;
+        marks = mark.1;
+        marked = mark.3;
+        kinds = a.1.1.kinds;
+        flat = a.1.1.flat;
+        place = own.0;
+        held = own.1;
+        moved = own.2;
+      },
+    )))
 fails_at idl k n marked name params outcome r marks here (inr (inr (inr (e, inl x)))) = inr (inr (inr (e, inl (many_params idl.lines n (method_at idl.lines k n name params outcome here) x))))
 fails_at idl k n marked name params outcome r marks here (inr (inr (inr (e, inr x)))) = inr (inr (inr (e, inr (many_results idl.lines n (method_at idl.lines k n name params outcome here) x))))
 

@@ -1,5 +1,5 @@
 //! The tables of an interface part.
-ghost use Rattle.std.specs.Prelude.{◌≡◌, ℕ, ◌+◌, ◌<◌, ◌≤◌, ◌^◌, List as Items, Some, false, length, slice_get, drop, IfOk};
+ghost use Rattle.std.specs.Prelude.{◌≡◌, ℕ, ◌+◌, ◌<◌, ◌≤◌, ◌^◌, List as Items, Some, false, length, slice_get, drop, IfOk, OnOk};
 ghost use Rattle.std.specs.Option.{option_copied};
 ghost use Rattle.rl_defs.specs.declared.idl.IdlLine.{IdlLine as Form};
 ghost use Rattle.rl_defs.specs.Interfaces.{Rises, methods_of, traits_of, structs_of, param_types, result_types};
@@ -8,7 +8,7 @@ ghost use Rattle.rl_defs.specs.TypeRules.{StructRows};
 ghost use Rattle.rl_defs.specs.MethodRules.{FailsMethods, TableRows, IsMethodRow, AreMethodRows, AreTraitRows};
 ghost use Rattle.proxy_tables.specs.Rules.{KnowsRows, Exceeds, is_many};
 ghost use Rattle.rl_defs.specs.Flattening.{Flattens};
-ghost use Rattle.proxy_tables.specs.Built.{AllFit};
+ghost use Rattle.proxy_tables.specs.Built.{AllFit, TraitsTo};
 
 use crate::flat::{put_params, put_types};
 use crate::scan::check_methods;
@@ -110,6 +110,29 @@ fn method_rows(
     Ok(rows)
 }
 
+// Puts the row of a trait last, where the line at this place begins one.
+fn put_trait(
+    alloc: Global,
+    part: &Part,
+    structs: &List<StructRow>,
+    rows: &mut List<TraitRow>,
+    line: &Numbered<IdlLine>,
+    at: usize,
+) -> Result<(), Memory>
+    requires here { slice_get part.now.lines.now at ≡ Some line.now }
+    requires rows { KnowsRows part.now.lines.now structs.now }
+    requires fit { AllFit part.now.lines.now }
+    requires before { TraitsTo part.now.lines.now rows.old at }
+    ensures { OnOk result (TraitsTo part.now.lines.now rows.new (at + 1)) }
+{
+    let Some(name) = trait_name(&line.form) else {
+        return Ok(());
+    };
+    let methods = method_rows(alloc, part, structs, at + 1)?;
+    rows.push(TraitRow { name, methods })?;
+    Ok(())
+}
+
 fn trait_rows(
     alloc: Global,
     part: &Part,
@@ -122,11 +145,8 @@ fn trait_rows(
     let mut rows = List::new(alloc);
     let mut at = 0usize;
     'traits: while let Some(line) = line_at(part.lines, at) {
+        put_trait(alloc, part, structs, &mut rows, line, at)?;
         at += 1;
-        if let Some(name) = trait_name(&line.form) {
-            let methods = method_rows(alloc, part, structs, at)?;
-            rows.push(TraitRow { name, methods })?;
-        }
     }
     Ok(rows)
 }

@@ -1,19 +1,13 @@
 use Rattle.std.proofs.Common.{sym, arith}
 use Rattle.rl_defs.proofs.Places.{get_within}
-use Rattle.proxy_tables.proofs.Building.{traits_begin, traits_same, traits_more, traits_end}
+use Rattle.proxy_tables.proofs.Building.{traits_begin, traits_end}
 use Rattle.proxy_tables.proofs.build.trait_rows.Goals as goal
 
 pub traits-init : goal.traits-init
 traits-init c = traits_begin c.args.part.now.lines.now c.new-rows.result c.new-rows.ensures
 
-pub traits-preserved-in-Continue-branch-2 : goal.traits-preserved-in-Continue-branch-2
-traits-preserved-in-Continue-branch-2 c = traits_more c.args.part.now.lines.now c.traits.rows c.push.new.self c.traits.at c.in-Some.line.now c.in-Some-trait_name.name c.in_ok-methods.methods c.traits.invariant (sym c.in-Some.ensures) (sym c.in-Some-trait_name.ensures) c.in_ok-methods.ensures c.in_ok-push.ensures.ok
-
 pub traits-smaller : goal.traits-smaller
 traits-smaller c = let lt = get_within c.args.part.now.lines.now c.traits.at c.in-Some.line.now (sym c.in-Some.ensures) in omega (arith, lt)
-
-pub traits-preserved : goal.traits-preserved
-traits-preserved c = traits_same c.args.part.now.lines.now c.traits.rows c.traits.at c.in-Some.line.now c.traits.invariant (sym c.in-Some.ensures) (sym c.in_default-trait_name.ensures)
 
 pub returns : goal.returns
 returns c = traits_end c.args.part.now.lines.now c.traits.rows c.traits.at c.traits.invariant (sym c.in_default.ensures)

@@ -1,4 +1,4 @@
-use Rattle.std.proofs.Common.{◌≡◌, ◌<◌, ◌^◌, length, drop}
+use Rattle.std.proofs.Common.{◌≡◌, drop}
 use Rattle.rl_defs.specs.Interfaces.{place_of}
 use Rattle.proxy_tables.specs.Names.{method_names}
 use Rattle.proxy_tables.proofs.Methods.{shifted}
