@@ -5,3 +5,4 @@ pub mod Places
 pub mod FlatteningLaws
 pub mod HoldingLaws
 pub mod CheckedRows
+pub mod CodeRegisters

@@ -40,3 +40,4 @@ pub mod Instructions
 pub mod CodeFits
 pub mod LineRows
 pub mod Checked
+pub mod CodeLaws
