@@ -1,10 +1,11 @@
 -- Registers that hold what their kinds say.
-use Rattle.std.proofs.Common.{◌≡◌, ◌≢◌, refl, sym, ◌∙◌, ap, subst, ℕ, zero, suc, ◌+◌, ◌<◌, ◌==◌, Bool, true, false, not, ◌&&◌, ◌||◌, List, [], ◌∷◌, ◌++◌, length, map, Option, Some, None, arith, true≢false, unwrap_or}
+use Rattle.std.proofs.Common.{◌≡◌, ◌≢◌, refl, sym, ◌∙◌, ap, subst, ℕ, zero, suc, ◌+◌, ◌<◌, ◌==◌, Bool, true, false, not, ◌&&◌, ◌||◌, List, [], ◌∷◌, ◌++◌, length, map, Option, Some, None, arith, true≢false, unwrap_or, add-zero, zero-add}
 use Rattle.std.specs.Prelude.{slice_set, replicate, if◌then◌else◌}
 use Rattle.std.specs.List.{slice_index_or, list_all, list_any}
 use Rattle.std.proofs.Math.ListN.{length-set}
 use Rattle.std.proofs.lemmas.List.{length-replicate, get_or-replicate}
-use Rattle.std.proofs.lemmas.Bool.{eqb-true, eq-eqb}
+use Rattle.std.proofs.lemmas.Bool.{eqb-true, ne_eqb}
+use lib.Dec.{eqb-suc-suc}
 use Rattle.rl_defs.specs.declared.values.Value.{Value}
 use Rattle.rl_defs.specs.declared.values.Value.TheVariants as value
 use Rattle.rl_defs.specs.declared.code.Register.{Register}
@@ -78,10 +79,6 @@ set_fine types kinds regs a k v fine f =
         each = set_each types kinds regs a.number k v (omega arith) (omega arith) fine.fits.each f;
       };
     }
-
-is_lent : RegKind → Bool
-is_lent (held.Lent s) = true
-is_lent _ = false
 
 abbrev pub is_given : RegKind → Bool
 is_given (held.Lent s) = false
@@ -191,3 +188,96 @@ put_fine types (k ∷ ks) (r ∷ rs) (v ∷ values) kinds regs count are fine =
     put_fine types ks rs values (with_kind kinds r (as_register k)) (with_value regs r (Some v)) (omega arith)
     (and_right (fits_kind types (as_register k) (Some v)) (are_values types ks values) are)
     (set_fine types kinds regs r (as_register k) (Some v) fine (and_left (fits_kind types (as_register k) (Some v)) (are_values types ks values) are))
+
+-- whether one of these is put into a register
+abbrev pub is_put : ℕ → List Write → Bool
+is_put r ws = list_any (λ w. w.register.number == r) ws
+
+length-with_kind : (kinds : Kinds) (r : Register) (k : RegKind) → length (with_kind kinds r k) ≡ length kinds
+length-with_kind kinds r k = length-set kinds r.number k
+
+pub length-put_all : (ws : List Write) (kinds : Kinds) → length (put_all ws kinds) ≡ length kinds
+length-put_all [] kinds = refl
+length-put_all (w ∷ ws) kinds = length-put_all ws (with_kind kinds w.register w.kind) ∙ length-with_kind kinds w.register w.kind
+
+put_at : (kinds : Kinds) (a r : ℕ) (k : RegKind) → a < length kinds → slice_index_or (slice_set kinds a k) r held.Empty ≡ (if a == r then k else slice_index_or kinds r held.Empty)
+put_at [] a r k lt = absurd (omega arith)
+put_at (x ∷ kinds) zero zero k lt = refl
+put_at (x ∷ kinds) zero (suc r) k lt = ap (λ (b : Bool). if b then k else slice_index_or kinds r held.Empty) (sym (ne_eqb 0 (suc r) (λ e. omega arith)))
+put_at (x ∷ kinds) (suc a) zero k lt = ap (λ (b : Bool). if b then k else x) (sym (ne_eqb (suc a) 0 (λ e. omega arith)))
+put_at (x ∷ kinds) (suc a) (suc r) k lt = put_at kinds a r k (omega arith) ∙ ap (λ (b : Bool). if b then k else slice_index_or kinds r held.Empty) (sym (eqb-suc-suc a r))
+
+pub same_is : (a b : RegKind) → same_kind a b ≡ true → a ≡ b
+same_is held.Empty held.Empty e = refl
+same_is held.Num held.Num e = refl
+same_is (held.Own s) (held.Own t) e = ap (λ n. held.Own n) (eqb-true s t e)
+same_is (held.Lent s) (held.Lent t) e = ap (λ n. held.Lent n) (eqb-true s t e)
+same_is (held.Cap s) (held.Cap t) e = ap (λ n. held.Cap n) (eqb-true s t e)
+same_is a b e = cc
+
+chosen : (first rest : Bool) (k here base : RegKind) → (first ≡ true → k ≡ here) → (if rest then here else (if first then k else base)) ≡ (if first || rest then here else base)
+chosen true true k here base e = refl
+chosen true false k here base e = e refl
+chosen false true k here base e = refl
+chosen false false k here base e = refl
+
+abbrev all_same : Kinds → List Write → Bool
+all_same kinds ws = list_all (λ w. same_kind w.kind (kind_in kinds w.register)) ws
+
+-- where each kind that is put is the register's own
+put_same : (ws : List Write) (kinds base : Kinds) (r : ℕ) → length base ≡ 32 → all_same kinds ws ≡ true → slice_index_or (put_all ws base) r held.Empty ≡ (if is_put r ws then slice_index_or kinds r held.Empty else slice_index_or base r held.Empty)
+put_same [] kinds base r wide same = refl
+put_same (w ∷ ws) kinds base r wide same =
+    let below = w.register.below in
+    let here : w.kind ≡ kind_in kinds w.register = same_is w.kind (kind_in kinds w.register) (and_left (same_kind w.kind (kind_in kinds w.register)) (all_same kinds ws) same) in
+    put_same ws kinds (with_kind base w.register w.kind) r (length-with_kind base w.register w.kind ∙ wide) (and_right (same_kind w.kind (kind_in kinds w.register)) (all_same kinds ws) same)
+    ∙ (ap (λ k. if is_put r ws then slice_index_or kinds r held.Empty else k) (put_at base w.register.number r w.kind (omega arith))
+        ∙ chosen (w.register.number == r) (is_put r ws) w.kind (slice_index_or kinds r held.Empty) (slice_index_or base r held.Empty) (λ e. here ∙ ap (λ n. slice_index_or kinds n held.Empty) (eqb-true w.register.number r e)))
+
+keeps_none : (b : Bool) → let none : Option Value = None in none ≡ (if b then none else none)
+keeps_none true = refl
+keeps_none false = refl
+
+keep_at : (regs : Registers) (n r : ℕ) (among : List Register) → slice_index_or (keep_from n among regs) r None ≡ (if is_listed (n + r) among then slice_index_or regs r None else None)
+keep_at [] n r among = keeps_none (is_listed (n + r) among)
+keep_at (v ∷ regs) n zero among = rw add-zero refl
+keep_at (v ∷ regs) n (suc r) among = keep_at regs (n + 1) r among ∙ ap (λ m. if is_listed m among then slice_index_or regs r None else None) (omega arith)
+
+length-keep : (regs : Registers) (n : ℕ) (among : List Register) → length (keep_from n among regs) ≡ length regs
+length-keep [] n among = refl
+length-keep (v ∷ regs) n among = ap suc (length-keep regs (n + 1) among)
+
+listed_put : (d : Domain) (items : List HeadItem) (r : ℕ) → is_put r (listed d.tables items) ≡ is_listed r (map (λ item. item.register) items)
+listed_put d [] r = refl
+listed_put d (x ∷ items) r = ap (λ b. (x.register.number == r) || b) (listed_put d items r)
+
+empty_at : (n r : ℕ) → slice_index_or (replicate n held.Empty) r held.Empty ≡ held.Empty
+empty_at zero r = refl
+empty_at (suc n) zero = refl
+empty_at (suc n) (suc r) = empty_at n r
+
+pub length-no_kinds : length no_kinds ≡ 32
+length-no_kinds = length-replicate 32 held.Empty
+
+either_fits : (types : Typing) (b : Bool) (k : RegKind) (v : Option Value) → fits_kind types k v ≡ true → fits_kind types (if b then k else held.Empty) (if b then v else None) ≡ true
+either_fits types true k v f = f
+either_fits types false k v f = refl
+
+-- registers that enter a head are of its kinds once it has emptied the others
+pub head_fine : (types : Typing) (d : Domain) (items : List HeadItem) (kinds : Kinds) (regs : Registers) → enters d items kinds ≡ true → Fits types kinds regs → Fits types (head_kinds d.tables items) (kept items regs)
+head_fine types d items kinds regs enter fit =
+    let same = and_left (all_same kinds (listed d.tables items)) (owns_nothing (without (map (λ item. item.register) items) kinds)) enter in
+    let registers = map (λ item. item.register) items in
+    record {
+      all = length-keep regs 0 registers ∙ fit.all;
+      each = λ r.
+        let k : slice_index_or (head_kinds d.tables items) r held.Empty ≡ (if is_listed r registers then slice_index_or kinds r held.Empty else held.Empty) =
+            put_same (listed d.tables items) kinds no_kinds r length-no_kinds same
+            ∙ (ap (λ e. if is_put r (listed d.tables items) then slice_index_or kinds r held.Empty else e) (empty_at 32 r)
+                ∙ ap (λ (b : Bool). if b then slice_index_or kinds r held.Empty else held.Empty) (listed_put d items r)) in
+        let v : slice_index_or (kept items regs) r None ≡ (if is_listed r registers then slice_index_or regs r None else None) =
+            keep_at regs 0 r registers ∙ ap (λ m. if is_listed m registers then slice_index_or regs r None else None) (zero-add r) in
+        ap (λ x. fits_kind types x (slice_index_or (kept items regs) r None)) k
+        ∙ (ap (λ x. fits_kind types (if is_listed r registers then slice_index_or kinds r held.Empty else held.Empty) x) v
+            ∙ either_fits types (is_listed r registers) (slice_index_or kinds r held.Empty) (slice_index_or regs r None) (fit.each r));
+    }

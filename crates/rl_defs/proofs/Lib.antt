@@ -6,3 +6,5 @@ pub mod FlatteningLaws
 pub mod HoldingLaws
 pub mod CheckedRows
 pub mod CodeRegisters
+pub mod CodeBlocks
+pub mod CodeStands
