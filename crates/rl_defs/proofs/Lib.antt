@@ -8,3 +8,6 @@ pub mod CheckedRows
 pub mod CodeRegisters
 pub mod CodeBlocks
 pub mod CodeStands
+pub mod CodeWidths
+pub mod CodeSafe
+pub mod CodeAnswers
