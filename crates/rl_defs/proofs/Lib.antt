@@ -7,3 +7,9 @@ pub mod HoldingLaws
 pub mod CheckedRows
 pub mod SmallRules
 pub mod SmallChecked
+pub mod CodeRegisters
+pub mod CodeBlocks
+pub mod CodeStands
+pub mod CodeWidths
+pub mod CodeSafe
+pub mod CodeAnswers

@@ -46,7 +46,7 @@ get_set (x ∷ xs) (suc i) (suc j) y z e = elim (get_set xs i j y z e) [
   | inr b ↦ inr (λ e'. b.0 (omega (arith, e')), b.1)
 ]
 
-drop_suc : {A : Type 0} (xs : List A) (i : ℕ) (x : A) → slice_get xs i ≡ Some x → drop i xs ≡ x ∷ drop (suc i) xs
+pub drop_suc : {A : Type 0} (xs : List A) (i : ℕ) (x : A) → slice_get xs i ≡ Some x → drop i xs ≡ x ∷ drop (suc i) xs
 drop_suc [] i x e = absurd cc
 drop_suc (y ∷ xs) zero x e = cc
 drop_suc (y ∷ xs) (suc i) x e = drop_suc xs i x e

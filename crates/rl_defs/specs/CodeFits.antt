@@ -29,7 +29,7 @@ use Rattle.rl_defs.specs.Domains.{Lines}
 use Rattle.rl_defs.specs.Texts.{code_number}
 use Rattle.rl_defs.specs.CodeNames.{struct_number, cells_of, slots, imports, type_at, slot_struct, import_trait, function_at, trait_number, results_of}
 use Rattle.rl_defs.specs.CodeKinds.{Kinds, kinds_at, kind_in, left, passed, method_called, hung_at, as_register}
-use Rattle.rl_defs.specs.CodeRules.{FailsCode, is_inside}
+use Rattle.rl_defs.specs.CodeRules.{FailsCode, is_inside, is_reached}
 use Rattle.rl_defs.specs.Sight.{Sight}
 use Rattle.rl_defs.specs.Instructions.{Registers, Stand, with_value, with_number, value_in, jumped}
 
@@ -86,9 +86,10 @@ pub record Fits (types : Typing) (kinds : Kinds) (regs : Registers) : Type 0 whe
   pub all : length regs ≡ 32
   pub each : (r : ℕ) → fits_kind types (slice_index_or kinds r held.Empty) (slice_index_or regs r None) ≡ true
 
--- a frame stands at a line of a function, with registers of the kinds that the line has
+-- a frame stands at a line of a function that is reached from the line before it, with registers of the kinds that the line has
 pub record FitsStand (types : Typing) (d : Domain) (s : Stand) : Type 0 where
   pub inside : is_inside (function_at d.lines s.at) ≡ true
+  pub reached : is_reached d s.at ≡ true
   pub within : s.at < length d.lines
   pub regs : Fits types (kinds_at d s.at) s.regs
 

@@ -46,3 +46,4 @@ pub mod BundleNames
 pub mod PlanRules
 pub mod ScriptRules
 pub mod Acceptance
+pub mod CodeLaws

@@ -9,27 +9,34 @@ use Rattle.rl_defs.specs.declared.code.DomainLine.TheVariants as line
 use Rattle.rl_defs.specs.declared.tables.MethodRow.{MethodRow}
 use Rattle.rl_defs.specs.DomainValue.{Domain}
 use Rattle.rl_defs.specs.Domains.{body_of_function}
-use Rattle.rl_defs.specs.CodeNames.{struct_number, method_number, methods_of, domain_trait}
+use Rattle.rl_defs.specs.CodeNames.{Function, function_at, struct_number, method_number, methods_of, domain_trait}
 use Rattle.rl_defs.specs.CodeKinds.{Kinds, kinds_at, kind_in, at_label}
 use Rattle.rl_defs.specs.CodeRules.{object_struct, label_of, place_of_label}
 use Rattle.rl_defs.specs.Instructions.{Registers, Stand, with_value, slot_number, import_number, trait_of_kind, behind_heads}
 use Rattle.rl_defs.specs.CodeFits.{Typing, Fits}
 
--- the struct, slot, import or method that an instruction names, by its number
-abbrev pub number_named : Domain → Kinds → Instr → Option ℕ
-number_named d kinds (instr.New a ty) = Some (struct_number d.tables ty)
-number_named d kinds (instr.Has a slot) = Some (slot_number d slot)
-number_named d kinds (instr.Take a slot) = Some (slot_number d slot)
-number_named d kinds (instr.Put slot a) = Some (slot_number d slot)
-number_named d kinds (instr.Cap a import) = Some (import_number d import)
-number_named d kinds (instr.Call c method args results e label) = Some (unwrap_or (method_number d.tables (trait_of_kind (kind_in kinds c)) method) 0)
-number_named d kinds _ = None
+-- the method that a function is for, by its number
+abbrev pub number_of_function : Domain → Option Function → Option ℕ
+number_of_function d None = None
+number_of_function d (Some f) = method_number d.tables (domain_trait d) f.name
 
--- the trait of the interface that is called, or the struct of the object whose cell is set
-abbrev pub type_named : Kinds → Instr → Option ℕ
-type_named kinds (instr.Set o i v) = object_struct (kind_in kinds o)
-type_named kinds (instr.Call c method args results e label) = Some (trait_of_kind (kind_in kinds c))
-type_named kinds _ = None
+-- The struct, slot, import or method that an instruction at line n names, by its number. A `ret` names the method of its function.
+abbrev pub number_named : Domain → ℕ → Kinds → Instr → Option ℕ
+number_named d n kinds (instr.New a ty) = Some (struct_number d.tables ty)
+number_named d n kinds (instr.Has a slot) = Some (slot_number d slot)
+number_named d n kinds (instr.Take a slot) = Some (slot_number d slot)
+number_named d n kinds (instr.Put slot a) = Some (slot_number d slot)
+number_named d n kinds (instr.Cap a import) = Some (import_number d import)
+number_named d n kinds (instr.Call c method args results e label) = Some (unwrap_or (method_number d.tables (trait_of_kind (kind_in kinds c)) method) 0)
+number_named d n kinds (instr.Ret results) = number_of_function d (function_at d.lines n)
+number_named d n kinds _ = None
+
+-- the trait of the interface that is called, or of the domain that returns, or the struct of the object whose cell is set
+abbrev pub type_named : Domain → Kinds → Instr → Option ℕ
+type_named d kinds (instr.Set o i v) = object_struct (kind_in kinds o)
+type_named d kinds (instr.Call c method args results e label) = Some (trait_of_kind (kind_in kinds c))
+type_named d kinds (instr.Ret results) = Some (domain_trait d)
+type_named d kinds _ = None
 
 -- these registers lose what they hold
 abbrev pub emptied : List Register → Registers → Registers
@@ -43,8 +50,8 @@ Leads d kinds at to rs = (types : Typing) (regs : Registers) → Fits types kind
 
 -- what an instruction at a line names
 pub record Names (d : Domain) (n : ℕ) (i : Instr) (number of label : ℕ) : Type 0 where
-  pub named : (k : ℕ) → number_named d (kinds_at d n) i ≡ Some k → number ≡ k
-  pub typed : (k : ℕ) → type_named (kinds_at d n) i ≡ Some k → of ≡ k
+  pub named : (k : ℕ) → number_named d n (kinds_at d n) i ≡ Some k → number ≡ k
+  pub typed : (k : ℕ) → type_named d (kinds_at d n) i ≡ Some k → of ≡ k
   pub place : (p : ℕ) → place_of_label d n (label_of i) ≡ Some p → label ≡ p
 
 -- where control stands that comes to a line from the line before it

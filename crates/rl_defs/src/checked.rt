@@ -23,9 +23,9 @@ pub struct Way {
 /// What is kept beside a line: found once, so that no step of a run looks a name up.
 #[derive(Clone, Copy, Debug)]
 pub struct LineRow {
-    /// The struct, slot, import or method that the line names, by its number.
+    /// The struct, slot, import or method that the line names, by its number. A `ret` names the method of its function.
     pub number: u32,
-    /// The trait of the interface that the line calls, or the struct of the object whose cell it sets.
+    /// The trait of the interface that the line calls, or of the domain that returns, or the struct of the object whose cell is set.
     pub of: u32,
     /// The place of the head of the label that the line names.
     pub label: u32,
