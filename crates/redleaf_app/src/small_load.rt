@@ -110,7 +110,7 @@ fn domain(alloc: Global) -> Result<DomainText, Memory>
     Ok(DomainText { lines })
 }
 
-// What is kept beside a line that is no head and names nothing.
+// What is kept beside a line that is no head, and names nothing but by the number 0.
 fn plain_row(place: u32) -> LineRow
     ensures { result ≡ plain_row place }
 {

@@ -14,10 +14,15 @@ use Rattle.rl_defs.specs.Checked.{IsRow, IsChecked}
 use Rattle.rl_defs.specs.Small.{small_domain, small_rows, small_entries, plain_row}
 use Rattle.rl_defs.proofs.SmallRules.{form_of, small_keeps, small_ordered, small_is_small}
 
--- a line that names nothing
-record NamesNothing (n : ℕ) (i : Instr) : Type 0 where
-  number : number_named small_domain (kinds_at small_domain n) i ≡ None
-  type : type_named (kinds_at small_domain n) i ≡ None
+-- a number that is 0, if there is one
+abbrev IsZero : Option ℕ → Type 0
+IsZero None = Unit {0}
+IsZero (Some k) = 0 ≡ k
+
+-- an instruction names no label, and nothing with another number than 0
+record NamesZero (n : ℕ) (i : Instr) : Type 0 where
+  number : IsZero (number_named small_domain n (kinds_at small_domain n) i)
+  type : IsZero (type_named small_domain (kinds_at small_domain n) i)
   label : place_of_label small_domain n (label_of i) ≡ None
 
 abbrev instr_of : DomainLine → Option Instr
@@ -27,22 +32,22 @@ instr_of _ = None
 abbrev instr_at : Option (Numbered DomainLine) → Option Instr
 instr_at l = instr_of (form_of l)
 
--- where there is an instruction, it names nothing
+-- where there is an instruction, it names nothing but by 0
 abbrev Plain : ℕ → Option Instr → Type 0
 Plain n None = Unit {0}
-Plain n (Some i) = NamesNothing n i
+Plain n (Some i) = NamesZero n i
 
 plain : (n : ℕ) → n < 6 → Plain n (instr_at (slice_get small_domain.lines n))
 plain zero within = tt
 plain (suc zero) within = tt
-plain (suc (suc zero)) within = record { number = refl; type = refl; label = refl }
+plain (suc (suc zero)) within = record { number = tt; type = tt; label = refl }
 plain (suc (suc (suc zero))) within = record { number = refl; type = refl; label = refl }
 plain (suc (suc (suc (suc zero)))) within = tt
 plain (suc (suc (suc (suc (suc zero))))) within = tt
 plain (suc (suc (suc (suc (suc (suc n)))))) within = absurd (omega arith)
 
-names_nothing : (n k : ℕ) (i : Instr) → slice_get small_domain.lines n ≡ Some (record { line = k; form = line.Code i }) → NamesNothing n i
-names_nothing n k i here = subst (Plain n) (ap instr_at here) (plain n (slice_get_within small_domain.lines n _ here))
+names_zero : (n k : ℕ) (i : Instr) → slice_get small_domain.lines n ≡ Some (record { line = k; form = line.Code i }) → NamesZero n i
+names_zero n k i here = subst (Plain n) (ap instr_at here) (plain n (slice_get_within small_domain.lines n _ here))
 
 abbrev IsNothing : Option ℕ → Type 0
 IsNothing None = Unit {0}
@@ -51,14 +56,14 @@ IsNothing (Some k) = ⊥
 nothing : (o : Option ℕ) (k : ℕ) → o ≡ None → o ≡ Some k → ⊥
 nothing o k none some = subst IsNothing some (subst IsNothing (sym none) tt)
 
-names : (n : ℕ) (i : Instr) → NamesNothing n i → Names small_domain n i 0 0 0
+names : (n : ℕ) (i : Instr) → NamesZero n i → Names small_domain n i 0 0 0
 names n i none = record {
-  named = λ k e. absurd (nothing _ k none.number e);
-  typed = λ k e. absurd (nothing _ k none.type e);
+  named = λ k e. subst IsZero e none.number;
+  typed = λ k e. subst IsZero e none.type;
   place = λ p e. absurd (nothing _ p none.label e);
 }
 
-leads : (n : ℕ) (i : Instr) → NamesNothing n i → LeadsToLabel small_domain n i n []
+leads : (n : ℕ) (i : Instr) → NamesZero n i → LeadsToLabel small_domain n i n []
 leads n i none p e = absurd (nothing _ p none.label e)
 
 here : (n : ℕ) → n < 6 → LeadsHere small_domain n n []
@@ -75,8 +80,8 @@ is_row n within = record {
   here_within = record { ordered = omega arith; inside = omega arith };
   jump_within = record { ordered = omega arith; inside = omega arith };
   here = here n within;
-  names = λ k i is. names n i (names_nothing n k i is);
-  jump = λ k i is. leads n i (names_nothing n k i is);
+  names = λ k i is. names n i (names_zero n k i is);
+  jump = λ k i is. leads n i (names_zero n k i is);
 }
 
 abbrev row_or : LineRow → Option LineRow → LineRow

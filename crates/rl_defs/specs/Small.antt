@@ -79,7 +79,7 @@ small_domain = record {
   tables = small_tables;
 }
 
--- what is kept beside its lines: none of them is a head, none names anything, and no register is emptied
+-- what is kept beside its lines: none of them is a head, none names anything but its one method, and no register is emptied
 abbrev pub plain_way : ℕ → Way
 plain_way n = record { line = n; from = 0; to = 0 }
 
