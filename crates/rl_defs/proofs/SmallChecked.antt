@@ -1,13 +1,12 @@
 -- The domain of the small form is a checked one, with plain rows beside its lines.
-use Rattle.std.proofs.Common.{◌≡◌, refl, sym, ◌∙◌, ap, subst, ℕ, zero, suc, ◌<◌, List, [], ◌∷◌, length, Option, Some, None, slice_get, arith}
+use Rattle.std.proofs.Common.{◌≡◌, refl, sym, ◌∙◌, ap, subst, ℕ, zero, suc, ◌<◌, [], Option, Some, None, slice_get, arith}
 use Rattle.std.proofs.lemmas.Option.{slice_get_within}
 use Rattle.rl_defs.specs.declared.bundle.Numbered.{Numbered}
 use Rattle.rl_defs.specs.declared.code.Instr.{Instr}
 use Rattle.rl_defs.specs.declared.code.DomainLine.{DomainLine}
 use Rattle.rl_defs.specs.declared.code.DomainLine.TheVariants as line
 use Rattle.rl_defs.specs.declared.checked.LineRow.{LineRow}
-use Rattle.rl_defs.specs.CodeFits.{KeepsRules}
-use Rattle.rl_defs.specs.CodeKinds.{kinds_at, at_label}
+use Rattle.rl_defs.specs.CodeKinds.{kinds_at}
 use Rattle.rl_defs.specs.CodeRules.{label_of, place_of_label}
 use Rattle.rl_defs.specs.LineRows.{Names, LeadsHere, LeadsToLabel, number_named, type_named, entry_at}
 use Rattle.rl_defs.specs.Checked.{IsRow, IsChecked}

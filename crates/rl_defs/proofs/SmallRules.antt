@@ -1,5 +1,5 @@
 -- The domain of the small form keeps the rules.
-use Rattle.std.proofs.Common.{◌≡◌, refl, ◌+◌, ap, sym, subst, ℕ, zero, suc, ◌<◌, Bool, true, false, List, [], ◌∷◌, length, Option, Some, None, slice_get, arith, All}
+use Rattle.std.proofs.Common.{◌≡◌, refl, ◌+◌, ap, sym, subst, ℕ, zero, suc, ◌<◌, Bool, true, false, Option, Some, None, slice_get, arith, All}
 use Rattle.std.proofs.lemmas.Option.{slice_get_within}
 use Rattle.rl_defs.specs.declared.bundle.Numbered.{Numbered}
 use Rattle.rl_defs.specs.declared.code.DomainLine.{DomainLine}

@@ -1,12 +1,11 @@
 -- Which bundles are accepted, and the first failing rule of the others.
-use Rattle.std.specs.Prelude.{◌≡◌, ℕ, ◌⊎◌, List, [], ◌∷◌, map, slice_get, Some}
+use Rattle.std.specs.Prelude.{◌≡◌, ℕ, ◌⊎◌, List, slice_get, Some}
 use Rattle.rl_defs.specs.declared.code.DomainText.{DomainText}
 use Rattle.rl_defs.specs.declared.tables.Tables.{Tables}
 use Rattle.rl_defs.specs.Refusals.{Failing, Nowhere, Then, IsFirst}
 use Rattle.rl_defs.specs.Lines.{lines_of}
 use Rattle.rl_defs.specs.TypeRules.{FailsTypes}
 use Rattle.rl_defs.specs.MethodRules.{FailsMethods, TableRows}
-use Rattle.rl_defs.specs.DomainValue.{Domain}
 use Rattle.rl_defs.specs.CodeRules.{FailsCode}
 use Rattle.rl_defs.specs.BundleParts.{FailsForms, Bundle, IsBundle}
 use Rattle.rl_defs.specs.BundleNames.{FailsBundleNames}

@@ -1,6 +1,5 @@
 -- Rules 3 and 4 outside the interface part: names that are given twice, and names that nothing declares.
-use Rattle.std.specs.Prelude.{◌≡◌, ℕ, ◌<◌, ◌⊎◌, ◌+◌, Bool, true, false, List, [], ◌∷◌, ◌++◌, map, Option, Some, None, slice_get, take, if◌then◌else◌, unwrap_or}
-use Rattle.std.specs.Option.{option_to_list}
+use Rattle.std.specs.Prelude.{◌≡◌, ℕ, ◌<◌, ◌⊎◌, Bool, true, false, List, [], ◌∷◌, ◌++◌, map, Option, Some, None, slice_get, take, if◌then◌else◌}
 use Rattle.std.specs.List.{flat_map}
 use Rattle.rl_defs.specs.declared.bundle.Numbered.{Numbered}
 use Rattle.rl_defs.specs.declared.bundle.PlanLine.{PlanLine}
@@ -17,10 +16,10 @@ use Rattle.rl_defs.specs.declared.code.DomainLine.{DomainLine}
 use Rattle.rl_defs.specs.declared.code.DomainLine.TheVariants as line
 use Rattle.rl_defs.specs.declared.code.DomainText.{DomainText}
 use Rattle.rl_defs.specs.Refusals.{Failing}
-use Rattle.rl_defs.specs.Interfaces.{place_of, struct_names, trait_names, traits_of, MethodText, TraitText}
+use Rattle.rl_defs.specs.Interfaces.{place_of, struct_names, trait_names, traits_of, TraitText}
 use Rattle.rl_defs.specs.NameRules.{FailsNames}
 use Rattle.rl_defs.specs.Domains.{Lines, trait_name}
-use Rattle.rl_defs.specs.CodeNames.{Declared, imports, place_in, function_at}
+use Rattle.rl_defs.specs.CodeNames.{imports, place_in, function_at}
 use Rattle.rl_defs.specs.BundleParts.{Bundle}
 
 -- a name, and the number of the line that gives it

@@ -1,5 +1,5 @@
 -- A bundle: its headers and parts, the order of their lines, and what rules 1 and 2 refuse in it.
-use Rattle.std.specs.Prelude.{◌≡◌, ◌<◌, ◌≤◌, ℕ, suc, ◌+◌, ◌⊎◌, List, [], ◌∷◌, ◌++◌, Option, Some, None, length, slice_get, slice_range, codes, All}
+use Rattle.std.specs.Prelude.{◌≡◌, ◌<◌, ◌≤◌, ℕ, suc, ◌⊎◌, List, [], ◌∷◌, Option, Some, None, length, slice_get, slice_range, codes}
 use Rattle.rl_defs.specs.declared.bundle.PlanLine.{PlanLine}
 use Rattle.rl_defs.specs.declared.bundle.ClientLine.{ClientLine}
 use Rattle.rl_defs.specs.declared.bundle.ClientLine.TheVariants as client
@@ -9,8 +9,7 @@ use Rattle.rl_defs.specs.declared.idl.Idl.{Idl}
 use Rattle.rl_defs.specs.declared.code.DomainText.{DomainText}
 use Rattle.rl_defs.specs.declared.lexeme.Mark.TheVariants as m
 use Rattle.rl_defs.specs.Refusals.{Failing}
-use Rattle.rl_defs.specs.Lines.{lines_of}
-use Rattle.rl_defs.specs.Tokens.{Token, Name, Sign, HasTokens, IsSkipped}
+use Rattle.rl_defs.specs.Tokens.{Token, Name, Sign, HasTokens}
 use Rattle.rl_defs.specs.Parts.{Grammar, FailsPart}
 use Rattle.rl_defs.specs.Parts as parts
 use Rattle.rl_defs.specs.IdlParts as idl

@@ -1,7 +1,6 @@
 -- Rules 50 and 51: the scripts of the clients.
-use Rattle.std.specs.Prelude.{◌≡◌, ◌≢◌, ℕ, ◌<◌, ◌==◌, nat_le, ◌⊎◌, ◌&&◌, ◌||◌, not, Bool, true, false, List, [], ◌∷◌, ◌++◌, length, map, Option, Some, None, slice_get, take, if◌then◌else◌, IsTrue}
+use Rattle.std.specs.Prelude.{◌≡◌, ℕ, ◌==◌, nat_le, ◌⊎◌, ◌&&◌, not, Bool, true, false, List, [], ◌∷◌, length, Option, Some, None, slice_get, take, if◌then◌else◌}
 use Rattle.std.specs.List.{list_all, list_any, flat_map}
-use Rattle.rl_defs.specs.declared.bundle.Numbered.{Numbered}
 use Rattle.rl_defs.specs.declared.bundle.ScriptArgText.{ScriptArgText}
 use Rattle.rl_defs.specs.declared.bundle.ScriptArgText.TheVariants as arg
 use Rattle.rl_defs.specs.declared.bundle.ClientLine.{ClientLine}
