@@ -117,7 +117,7 @@ one_decimal place token front bytes before ps at valid more =
     let long : length (before ++ front) ≡ place + length front = omega (arith, length-append before front, at) in
     let whole : length ((before ++ front) ++ text) ≡ place + length front + length text = omega (arith, length-append (before ++ front) text, long) in
     let here : slice_range (before ++ (front ++ (text ++ bytes))) (place + length front) (place + length front + length text) ≡ text =
-        ap (λ (x : List ℕ). slice_range x (place + length front) (place + length front + length text)) near ∙ in_the_middle (before ++ front) text bytes (place + length front) (place + length front + length text) (sym long) (ap (λ (n : ℕ). n + length text) (sym long)) in (
+    ap (λ (x : List ℕ). slice_range x (place + length front) (place + length front + length text)) near ∙ in_the_middle (before ++ front) text bytes (place + length front) (place + length front + length text) (sym long) (ap (λ (n : ℕ). n + length text) (sym long)) in (
       own_decimal token (before ++ (front ++ (text ++ bytes))) (place + length front) (place + length front + length text) valid here,
       subst (λ (x : List ℕ). AreDecimal x ps) (sym far) (more ((before ++ front) ++ text) whole),
     )

@@ -303,7 +303,8 @@ mod tests {
         let mut bytes = Vec::new(rt.alloc());
         line.write_line(rt.alloc(), 1, &mut bytes)
             .map_err(|_| "memory")?;
-        assert!(rt; bytes.as_slice() == b"    const &\"a b\" 17,\n");
+        let wanted: &[u8] = b"    const &\"a b\" 17,\n";
+        assert!(rt; bytes.as_slice() == wanted);
         Ok(())
     }
 }
