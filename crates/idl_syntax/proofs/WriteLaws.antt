@@ -5,7 +5,7 @@ use Rattle.std.proofs.lemmas.List.{at_drop_more, drop_all}
 use Rattle.rl_defs.specs.declared.lexeme.Mark.TheVariants as m
 use Rattle.rl_defs.specs.declared.bundle.Numbered.{Numbered}
 use Rattle.rl_defs.specs.declared.idl.IdlLine.{IdlLine}
-use Rattle.rl_defs.specs.Words.{is_name, same_bytes}
+use Rattle.rl_defs.specs.Words.{is_name}
 use Rattle.rl_defs.specs.Tokens.{Token, Sign}
 use Rattle.rl_defs.specs.Canonical.{render_line}
 use Rattle.rl_defs.specs.IdlForms.{spell_more, spell_line}
