@@ -215,7 +215,7 @@ impl Numbers {
 /// The registers of a code frame, `r0` to `r31`. An empty register is None.
 #[derive(Debug, Drop)]
 pub struct Registers {
-    items: ArrayVec<Option<Value>, 32>,
+    items: [Option<Value>; 32],
 }
 
 impl Model for Registers {
@@ -224,9 +224,9 @@ impl Model for Registers {
 
     ghost Value = { List (Option Held) };
 
-    ghost view = { λ r. r.items.items };
+    ghost view = { λ r. r.items };
 
-    ghost invariant = { λ r. length r.items.items ≡ 32 };
+    ghost invariant = { λ r. length r.items ≡ 32 };
 }
 
 impl Registers {
@@ -234,9 +234,7 @@ impl Registers {
     pub fn new() -> Registers
         ensures { result ≡ replicate 32 None }
     {
-        Registers {
-            items: ArrayVec::from([None; 32]),
-        }
+        Registers { items: [None; 32] }
     }
 
     /// What a register holds.
@@ -259,6 +257,13 @@ impl Registers {
         ensures value { result.now ≡ self.now }
         ensures count { length self.now ≡ 32 }
     {
-        self.items.as_slice()
+        &self.items
+    }
+
+    /// The same registers once more.
+    pub fn copied(&self) -> Registers
+        ensures { result ≡ self.now }
+    {
+        Registers { items: self.items }
     }
 }
