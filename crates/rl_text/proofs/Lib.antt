@@ -11,3 +11,4 @@ pub mod RenderLaws
 pub mod PartLaws
 pub mod ManyLaws
 pub mod WordLaws
+pub mod PartReading

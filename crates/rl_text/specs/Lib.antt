@@ -6,3 +6,4 @@ pub mod TokenPlaces
 pub mod Steps
 pub mod Reading
 pub mod Many
+pub mod PartReading

@@ -1,0 +1,4 @@
+pub mod Registers
+pub mod VerbLaws
+pub mod OperandLaws
+pub mod ListLaws

@@ -1,0 +1,6 @@
+pub mod Whole
+pub mod Verbs
+pub mod Operands
+pub mod Lists
+pub mod Instructions
+pub mod Forms

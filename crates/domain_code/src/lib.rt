@@ -1,0 +1,8 @@
+//! The lines of the domain part, read and written: domain code.
+#![tactic(auto)]
+
+mod form;
+mod instr;
+mod list;
+mod operand;
+mod verb;
