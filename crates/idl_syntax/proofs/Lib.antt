@@ -5,6 +5,5 @@ pub mod LineAgain
 pub mod IdlLaws
 pub mod PartRules
 pub mod WriteLaws
-pub mod RenderSpells
 pub mod WriteAgain
 pub mod PartAgain

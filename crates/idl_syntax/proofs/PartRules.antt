@@ -13,45 +13,12 @@ use Rattle.rl_defs.specs.Tokens.{IsSkipped}
 use Rattle.rl_defs.specs.IdlForms.{IsIdlLine}
 use Rattle.rl_defs.specs.IdlParts as parts
 use Rattle.rl_defs.specs.IdlParts.{next_block, next_open, block_behind, forms_of, numbered, StandFor, IsLineOf, IsNoForm, IsMisplaced, IsLeftOpen, FailsIdl}
-use Rattle.rl_text.specs.declared.line.Line.{Line}
-use Rattle.rl_text.specs.Places.{AreNumbered, IsWithin}
 use Rattle.idl_syntax.specs.declared.part.Block.{Block}
 use Rattle.idl_syntax.specs.declared.part.Block.TheVariants as b
-use Rattle.idl_syntax.specs.Forms.{IsRefused}
-use Rattle.idl_syntax.specs.Parts.{block_of, Stands, Skips, Barred, TakesLine, first_number}
+use Rattle.rl_text.specs.Forms.{IsRefused}
+use Rattle.idl_syntax.specs.Parts.{block_of, Stands, Skips, Barred, TakesLine}
+use Rattle.rl_text.proofs.ListPlaces.{read_within, one_more}
 use Rattle.idl_syntax.proofs.IdlLaws.{one_form, skipped_no_form}
-
--- ---- places of lists
-
-pub read_at : {A : Type 0} (xs : List A) (i : ℕ) (x d : A) → i < length xs → x ≡ get_or xs i d → slice_get xs i ≡ Some x
-read_at [] i x d lt e = absurd (omega arith)
-read_at (y ∷ ys) zero x d lt e = ap (λ z. Some z) (sym e)
-read_at (y ∷ ys) (suc i) x d lt e = read_at ys i x d (omega arith) e
-
-read_within : {A : Type 0} (xs : List A) (i : ℕ) (x : A) → slice_get xs i ≡ Some x → i < length xs
-read_within [] i x e = absurd cc
-read_within (y ∷ ys) zero x e = omega arith
-read_within (y ∷ ys) (suc i) x e = omega (arith, read_within ys i x e)
-
-get_from : {A : Type 0} (xs : List A) (i : ℕ) (x : A) → slice_get xs i ≡ Some x → get_or xs i x ≡ x
-get_from [] i x e = refl
-get_from (y ∷ ys) zero x e = let q : y ≡ x = cc in q
-get_from (y ∷ ys) (suc i) x e = get_from ys i x e
-
-pub read_map : {A B : Type 0} (f : A → B) (xs : List A) (i : ℕ) (x : A) → slice_get xs i ≡ Some x → slice_get (map f xs) i ≡ Some (f x)
-read_map f [] i x e = absurd cc
-read_map {A} {B} f (y ∷ ys) zero x e = let q : y ≡ x = cc in ap (λ (z : A). Some (f z)) q
-read_map f (y ∷ ys) (suc i) x e = read_map f ys i x e
-
-one_more : {A : Type 0} (xs : List A) (i : ℕ) (x : A) → slice_get xs i ≡ Some x → take (i + 1) xs ≡ take i xs ++ x ∷ []
-one_more {A} xs i x e = take_more xs i x (read_within xs i x e) ∙ ap (λ (z : A). take i xs ++ z ∷ []) (get_from xs i x e)
-
-pub numbered_at : (bytes : List ℕ) (number : ℕ) (lines : List Line) (i : ℕ) (line : Line) → AreNumbered bytes number lines → slice_get lines i ≡ Some line → (line.number ≡ number + i) × IsWithin bytes line
-numbered_at bytes number [] i line h e = absurd cc
-numbered_at bytes number (l ∷ lines) zero line h e =
-    let q : l ≡ line = cc in
-    (subst (λ (x : Line). x.number ≡ number + zero) q (h.0 ∙ sym (add-zero number)), subst (λ (x : Line). IsWithin bytes x) q h.1)
-numbered_at bytes number (l ∷ lines) (suc i) line h e = let p = numbered_at bytes (number + 1) lines i line h.2 e in (omega (arith, p.0), p.1)
 
 -- ---- what texts stand for
 
@@ -179,7 +146,7 @@ next_line first i number texts text block next old new here number-is so (inl s)
 next_line first i number texts text block next old new here number-is so (inr s) = next_stands first i number texts text block next old new here number-is so s
 
 -- a line that rule 1 refuses
-no_form_first : (first i : ℕ) (texts : List (List ℕ)) (text : List ℕ) (block : Block) (old : List (Numbered IdlLine)) → slice_get texts i ≡ Some text → SoFar first texts i old block → IsRefused text → IsFirst (FailsIdl first texts) (first + i) 1
+no_form_first : (first i : ℕ) (texts : List (List ℕ)) (text : List ℕ) (block : Block) (old : List (Numbered IdlLine)) → slice_get texts i ≡ Some text → SoFar first texts i old block → IsRefused IsIdlLine text → IsFirst (FailsIdl first texts) (first + i) 1
 no_form_first first i texts text block old here so r =
     first_at (FailsIdl first texts) (first + i) 1 (inl (refl, record { behind = i; text = text; line = record { place = refl; here = here }; not_skipped = r.not_skipped; no_form = r.no_form })) so.before
     (λ r. λ (f : FailsIdl first texts (first + i) r). elim f [ inl a ↦ omega (arith, a.0) | inr b ↦ omega (arith, b.0) ])
@@ -240,8 +207,3 @@ not_outside b.Outside h e = h refl
 not_outside b.InStruct h e = cc
 not_outside b.InTrait h e = cc
 not_outside b.BeforeMethod h e = cc
-
--- the lines of a text from its first on
-pub first_one : (bytes : List ℕ) (lines : List Line) → AreNumbered bytes 1 lines → first_number lines ≡ 1
-first_one bytes [] h = refl
-first_one bytes (line ∷ lines) h = h.0

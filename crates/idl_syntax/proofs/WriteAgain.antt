@@ -5,7 +5,7 @@ use Rattle.rl_defs.specs.Canonical.{render}
 use Rattle.rl_defs.specs.IdlForms.{spell_line}
 use Rattle.rl_defs.specs.IdlCanonical.{canonical, write_line}
 use Rattle.idl_syntax.specs.Writable.{IsReadAgain}
-use Rattle.idl_syntax.proofs.RenderSpells.{render_has}
+use Rattle.rl_text.proofs.RenderSpells.{render_has}
 
 pub line_again_read : (line : IdlLine) (text : List ℕ) → text ≡ write_line line → IsReadAgain line text
 line_again_read line text is form names short =

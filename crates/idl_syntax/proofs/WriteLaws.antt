@@ -2,24 +2,12 @@
 use Rattle.std.proofs.Common.{◌≡◌, ℕ, ◌+◌, ◌<◌, ◌≤◌, true, List, [], ◌∷◌, ◌++◌, length, drop, get_or, refl, sym, ap, ◌∙◌, append_assoc, append-nil}
 use Rattle.std.specs.Prelude.{codes}
 use Rattle.std.proofs.lemmas.List.{at_drop_more, drop_all}
-use Rattle.rl_defs.specs.declared.lexeme.Mark.TheVariants as m
 use Rattle.rl_defs.specs.declared.bundle.Numbered.{Numbered}
 use Rattle.rl_defs.specs.declared.idl.IdlLine.{IdlLine}
 use Rattle.rl_defs.specs.Words.{is_name, same_bytes}
-use Rattle.rl_defs.specs.Tokens.{Token, Sign}
 use Rattle.rl_defs.specs.Canonical.{render_line}
-use Rattle.rl_defs.specs.IdlForms.{spell_more, spell_line}
+use Rattle.rl_defs.specs.IdlForms.{spell_line}
 use Rattle.rl_defs.specs.IdlCanonical.{canonical, depth_of, write_part}
-
-pub more_step : {A : Type 0} (spell : A → List Token) (xs : List A) (i : ℕ) (x : A) (before out marked new : List Token) → i < length xs → x ≡ get_or xs i x → before ≡ out ++ spell_more spell (drop i xs) → marked ≡ out ++ Sign m.Comma ∷ [] → new ≡ marked ++ spell x → before ≡ new ++ spell_more spell (drop (i + 1) xs)
-more_step {A} spell xs i x before out marked new lt is so_far marked-is new-is =
-    let more : List Token = spell_more spell (drop (i + 1) xs) in
-    let one : spell_more spell (drop i xs) ≡ (Sign m.Comma ∷ []) ++ (spell x ++ more) = at_drop_more (spell_more spell) xs i x lt ∙ ap (λ (y : A). spell_more spell (y ∷ drop (i + 1) xs)) (sym is) in
-    so_far ∙ ap (λ (t : List Token). out ++ t) one ∙ sym (append_assoc out (Sign m.Comma ∷ []) (spell x ++ more)) ∙ sym (append_assoc (out ++ Sign m.Comma ∷ []) (spell x) more)
-    ∙ ap (λ (t : List Token). (t ++ spell x) ++ more) (sym marked-is) ∙ ap (λ (t : List Token). t ++ more) (sym new-is)
-
-pub more_all : {A : Type 0} (spell : A → List Token) (xs : List A) (i : ℕ) (before out : List Token) → length xs ≤ i → before ≡ out ++ spell_more spell (drop i xs) → out ≡ before
-more_all {A} spell xs i before out le so_far = sym (so_far ∙ ap (λ (t : List A). out ++ spell_more spell t) (drop_all i xs le) ∙ append-nil out)
 
 pub lines_step : (xs : List (Numbered IdlLine)) (i : ℕ) (x : Numbered IdlLine) (before out new : List ℕ) → i < length xs → x ≡ get_or xs i x → before ≡ out ++ write_part (drop i xs) → new ≡ out ++ render_line (depth_of x.form) (spell_line canonical x.form) → before ≡ new ++ write_part (drop (i + 1) xs)
 unfolding write_part

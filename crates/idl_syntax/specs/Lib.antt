@@ -1,8 +1,6 @@
-pub mod Whole
 pub mod Wrapped
 pub mod Types
 pub mod Lines
-pub mod Forms
 pub mod Parts
 pub mod Writable
 pub mod Laws

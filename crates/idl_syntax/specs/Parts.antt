@@ -8,10 +8,9 @@ use Rattle.rl_defs.specs.Tokens.{IsSkipped}
 use Rattle.rl_defs.specs.IdlForms.{IsIdlLine}
 use Rattle.rl_defs.specs.IdlParts as parts
 use Rattle.rl_defs.specs.IdlParts.{next_block, numbered}
-use Rattle.rl_text.specs.declared.line.Line.{Line}
 use Rattle.idl_syntax.specs.declared.part.Block.{Block}
 use Rattle.idl_syntax.specs.declared.part.Block.TheVariants.{Outside, InStruct, InTrait, BeforeMethod}
-use Rattle.idl_syntax.specs.Forms.{IsRefused}
+use Rattle.rl_text.specs.Forms.{IsRefused}
 
 abbrev pub block_of : Block → parts.Block
 block_of Outside = parts.Outside
@@ -22,11 +21,6 @@ block_of BeforeMethod = parts.BeforeMethod
 abbrev pub GivesBlock : Option Block → Option parts.Block → Type 0
 GivesBlock None next = next ≡ None
 GivesBlock (Some block) next = next ≡ Some (block_of block)
-
--- the number of the first line, or 1 where there is none
-abbrev pub first_number : List Line → ℕ
-first_number [] = 1
-first_number (line ∷ lines) = line.number
 
 -- a line with tokens that may stand there
 pub record Stands (number : ℕ) (text : List ℕ) (block next : Block) (old new : List (Numbered IdlLine)) : Type 0 where
@@ -50,5 +44,5 @@ pub record Barred (text : List ℕ) (block : Block) : Type 0 where
 -- what became of a line behind the lines so far
 abbrev pub TakesLine : ℕ → List ℕ → Block → List (Numbered IdlLine) → List (Numbered IdlLine) → Result Block LoadFault → Type 0
 TakesLine number text block old new (Ok next) = Skips text block next old new ⊎ Stands number text block next old new
-TakesLine number text block old new (Err (Refused at)) = (at.line ≡ number) × (((at.rule ≡ 1) × IsRefused text) ⊎ ((at.rule ≡ 2) × Barred text block))
+TakesLine number text block old new (Err (Refused at)) = (at.line ≡ number) × (((at.rule ≡ 1) × IsRefused IsIdlLine text) ⊎ ((at.rule ≡ 2) × Barred text block))
 TakesLine number text block old new (Err Memory) = Unit {0}

@@ -1,27 +1,12 @@
--- Tokens that can be written.
-use Rattle.std.specs.Prelude.{ℕ, ◌+◌, ◌*◌, ◌<◌, ◌≤◌, ◌^◌, IsTrue, List, [], ◌∷◌, ◌++◌, length, replicate}
-use Rattle.std.specs.List.{list_all}
+-- What is written is read again.
+use Rattle.std.specs.Prelude.{ℕ, ◌+◌, ◌≤◌, List, [], ◌∷◌, length}
 use Rattle.rl_defs.specs.declared.bundle.Numbered.{Numbered}
 use Rattle.rl_defs.specs.declared.idl.IdlLine.{IdlLine}
 use Rattle.rl_defs.specs.Lines.{lines_of}
-use Rattle.rl_defs.specs.Canonical.{render}
 use Rattle.rl_defs.specs.IdlParts.{StandFor, numbered}
-use Rattle.rl_defs.specs.Words.{is_name}
 use Rattle.rl_defs.specs.IdlForms.{spell_line, IsForm, IsIdlLine}
 use Rattle.rl_defs.specs.IdlCanonical.{canonical, depth_of}
-use Rattle.rl_defs.specs.Tokens.{Token, Name, Reserved, Number, Text, Sign, is_text_byte}
-
--- a name is one, a number fits 64 bits, a text has bytes of a text
-abbrev pub IsWritable : Token → Type 0
-IsWritable (Name word) = IsTrue (is_name word)
-IsWritable (Reserved key) = Unit {0}
-IsWritable (Number n) = n < 2 ^ 64
-IsWritable (Text inner) = IsTrue (list_all is_text_byte inner)
-IsWritable (Sign mark) = Unit {0}
-
-abbrev pub AreWritable : List Token → Type 0
-AreWritable [] = Unit {0}
-AreWritable (token ∷ more) = IsWritable token × AreWritable more
+use Rattle.rl_text.specs.Writable.{AreWritable, written_inside}
 
 -- A text that was written for a line is that line, where its types are types, its names are names, and it is no longer than a line
 -- may be.
@@ -35,7 +20,7 @@ renumbered number (line ∷ lines) = numbered number line.form ∷ renumbered (n
 
 -- a line of a part as it is written, without its line feed
 abbrev pub written : IdlLine → List ℕ
-written form = replicate (4 * depth_of form) 32 ++ render (spell_line canonical form)
+written form = written_inside (depth_of form) (spell_line canonical form)
 
 -- each line's types are types, its names are names, and it is no longer than a line may be
 abbrev pub CanBeRead : List (Numbered IdlLine) → Type 0

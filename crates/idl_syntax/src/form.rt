@@ -3,7 +3,7 @@ ghost use Rattle.std.specs.Prelude.{◌≡◌, ℕ, List, [], ◌∷◌, Some, N
 ghost use Rattle.rl_text.specs.Reading.{Gives, Passes, mark_at, key_at};
 ghost use Rattle.rl_text.specs.Many.{all_at};
 ghost use Rattle.idl_syntax.specs.Lines.{types_at, parts_at, one_at, out_at, rpc_at, plain_out_at, behind_arrow_at, result_at, head_at, struct_at, trait_at, behind_comma, field_at, attribute_at, receiver_at, method_at, open_at, form_at, line_at};
-ghost use Rattle.idl_syntax.specs.Whole.{GivesWhole};
+ghost use Rattle.rl_text.specs.Whole.{GivesWhole};
 
 use crate::list::{params, types};
 use crate::types::whole_type;

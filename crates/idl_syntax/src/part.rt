@@ -2,8 +2,8 @@
 ghost use Rattle.std.specs.Prelude.{◌≡◌, ℕ, ◌+◌, ◌<◌, ◌^◌, List, map, length};
 ghost use Rattle.rl_defs.specs.Refusals.{Answers};
 ghost use Rattle.rl_defs.specs.IdlParts.{StandFor, FailsIdl, next_block};
-ghost use Rattle.rl_text.specs.Places.{text_of, IsWithin, AreNumbered};
-ghost use Rattle.idl_syntax.specs.Parts.{block_of, GivesBlock, TakesLine, first_number};
+ghost use Rattle.rl_text.specs.Places.{text_of, IsWithin, AreNumbered, first_number};
+ghost use Rattle.idl_syntax.specs.Parts.{block_of, GivesBlock, TakesLine};
 
 use crate::read::read_form;
 use rl_defs::LoadFault;
@@ -11,7 +11,7 @@ use rl_defs::bundle::Numbered;
 use rl_defs::idl::{Idl, IdlLine};
 use rl_defs::list::List;
 use rl_text::lexeme::Lexeme;
-use rl_text::line::Line;
+use rl_text::line::{Line, first_number};
 use rl_text::token::refused;
 use std::alloc::Global;
 
@@ -49,16 +49,6 @@ fn after(block: Block, form: &IdlLine) -> Option<Block>
             IdlLine::Method { .. } => Some(Block::InTrait),
             _ => None,
         },
-    }
-}
-
-// The number of the first line, or 1 where there is none.
-fn first_number(lines: &[Line]) -> u32
-    ensures { result ≡ first_number lines.now }
-{
-    match lines {
-        [] => 1,
-        [first, ..] => first.number,
     }
 }
 

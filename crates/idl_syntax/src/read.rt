@@ -4,7 +4,7 @@ ghost use Rattle.rl_defs.specs.Refusals.{Answers};
 ghost use Rattle.rl_defs.specs.IdlForms.{IsIdlLine};
 ghost use Rattle.rl_defs.specs.IdlParts.{FailsIdlLine};
 ghost use Rattle.rl_text.specs.Places.{text_of, IsWithin};
-ghost use Rattle.idl_syntax.specs.Forms.{Reads};
+ghost use Rattle.rl_text.specs.Forms.{Reads};
 
 use crate::form::whole_form;
 use rl_defs::LoadFault;
@@ -38,7 +38,7 @@ pub(crate) fn read_form(
     line: &Line,
 ) -> Result<Option<IdlLine>, LoadFault>
     requires { IsWithin bytes.now line.now }
-    ensures { Reads line.now.number (text_of bytes.now line.now) result }
+    ensures { Reads IsIdlLine line.now.number (text_of bytes.now line.now) result }
 {
     match lexemes(buffer, bytes, line) {
         Ok(()) => {}

@@ -304,7 +304,7 @@ pub fn write_idl_line(alloc: Global, line: &IdlLine) -> Result<Vec<u8>, Memory>
     ensures canonical { IfOk result (λ v. v.items ≡ write_line line.now) }
     ensures again { IfOk result (λ v. IsReadAgain line.now v.items) }
 {
-    let mut out = Spelling::new(alloc, b"");
+    let mut out = Spelling::new(alloc);
     put_line(&mut out, line)?;
     let mut bytes = Vec::new(alloc);
     out.write(alloc, &mut bytes)?;
@@ -324,7 +324,7 @@ pub fn write_idl(alloc: Global, idl: &Idl) -> Result<Vec<u8>, Memory>
 fn put_lines(alloc: Global, bytes: &mut Vec<u8>, lines: &[Numbered<IdlLine>]) -> Result<(), Memory>
     ensures { OnOk result (bytes.new.items ≡ bytes.old.items ++ write_part lines.now) }
 {
-    let mut out = Spelling::new(alloc, b"");
+    let mut out = Spelling::new(alloc);
     'lines: for line in lines {
         out.clear();
         put_line(&mut out, &line.form)?;

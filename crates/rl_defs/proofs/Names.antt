@@ -20,3 +20,13 @@ kept xs copied same fits name =
 -- a word that isn't reserved
 pub named : (word reserved : Bool) → word ≡ true → reserved ≡ false → IsTrue (word && not reserved)
 named word reserved w r = rw (w, r) refl
+
+pub unset : (b : Bool) → IsTrue (not b) → b ≡ false
+unset true h = absurd cc
+unset false h = refl
+
+-- a reserved word is no name
+pub taken : (word reserved : Bool) → reserved ≡ true → (false ≡ true → IsTrue (word && not reserved)) × (IsTrue (word && not reserved) → false ≡ true)
+taken true true e = (λ h. h, λ h. h)
+taken false true e = (λ h. h, λ h. h)
+taken word false e = absurd cc

@@ -63,7 +63,19 @@ impl Name {
         ensures exact { IsSome result ↔ IsTrue (is_name bytes.now) }
         ensures value { IfSome result (λ n. n ≡ bytes.now) }
     {
-        if !is_word(bytes) || is_reserved(bytes) {
+        if is_reserved(bytes) {
+            return None;
+        }
+        Name::unreserved(bytes)
+    }
+
+    /// The name that bytes are which are no reserved word, where they are one.
+    pub fn unreserved(bytes: &[u8]) -> Option<Name>
+        requires { IsTrue (not (is_reserved bytes.now)) }
+        ensures exact { IsSome result ↔ IsTrue (is_name bytes.now) }
+        ensures value { IfSome result (λ n. n ≡ bytes.now) }
+    {
+        if !is_word(bytes) {
             return None;
         }
         let mut all = [0; 24];

@@ -11,4 +11,11 @@ pub mod RenderLaws
 pub mod PartLaws
 pub mod ManyLaws
 pub mod WordLaws
-pub mod PartReading
+pub mod RenderSpells
+pub mod WrittenLines
+pub mod MoreLaws
+pub mod FormLaws
+pub mod ListPlaces
+pub mod PartRules
+pub mod DecimalLaws
+pub mod KeyLaws

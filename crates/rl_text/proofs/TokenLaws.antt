@@ -33,7 +33,7 @@ not_true false e = refl
 
 -- ---- reserved words and names
 
-key_here : (key : Key) → key_of (key_text key) ≡ Some key
+pub key_here : (key : Key) → key_of (key_text key) ≡ Some key
 unfolding key_of
 key_here k.Pub = refl
 key_here k.Struct = refl

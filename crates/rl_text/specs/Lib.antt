@@ -6,4 +6,8 @@ pub mod TokenPlaces
 pub mod Steps
 pub mod Reading
 pub mod Many
-pub mod PartReading
+pub mod Whole
+pub mod Writable
+pub mod Pieces
+pub mod Forms
+pub mod PartSteps

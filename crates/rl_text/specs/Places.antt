@@ -32,3 +32,8 @@ AreLines bytes lines = Follow bytes 1 0 lines (length bytes)
 abbrev pub AreNumbered : List ℕ → ℕ → List Line → Type 0
 AreNumbered bytes number [] = Unit {0}
 AreNumbered bytes number (line ∷ lines) = (line.number ≡ number) × IsWithin bytes line × AreNumbered bytes (number + 1) lines
+
+-- the number of the first line, or 1 where there is none
+abbrev pub first_number : List Line → ℕ
+first_number [] = 1
+first_number (line ∷ lines) = line.number

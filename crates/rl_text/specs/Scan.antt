@@ -38,6 +38,21 @@ all_keys = k.Pub ∷ k.Struct ∷ k.Trait ∷ k.Fn ∷ k.SelfWord ∷ k.RRef ∷
 unfoldable pub key_of : List ℕ → Option Key
 key_of run = find (λ key. pointwise ◌==◌ (key_text key) run) all_keys
 
+-- the one word of a number type that a run can be, by the byte behind its `u`
+abbrev pub likely_width : List ℕ → Option Key
+likely_width [] = None
+likely_width (c ∷ cs) = if c == 56 then Some k.U8 else (if c == 49 then Some k.U16 else (if c == 51 then Some k.U32 else (if c == 54 then Some k.U64 else None)))
+
+-- the one reserved word that a run can be, by its first bytes and its length
+abbrev pub likely_key : List ℕ → Option Key
+likely_key [] = None
+likely_key (c ∷ cs) =
+    if c == 112 then Some k.Pub else (if c == 115 then (if length cs == 3 then Some k.SelfWord else Some k.Struct) else
+    (if c == 116 then Some k.Trait else (if c == 102 then Some k.Fn else (if c == 82 then (if length cs == 3 then Some k.RRef else Some k.RpcResult) else
+    (if c == 100 then Some k.Dyn else (if c == 109 then Some k.Mut else (if c == 99 then Some k.Const else (if c == 66 then Some k.Box else
+    (if c == 86 then Some k.Vec else (if c == 83 then Some k.String else (if c == 98 then Some k.Bool else (if c == 117 then likely_width cs else
+    (if c == 110 then Some k.Num else None)))))))))))))
+
 -- the word of a run
 unfoldable pub word_of : List ℕ → Option Token
 word_of run = named (key_of run) where

@@ -204,7 +204,7 @@ impl<'a> Cursor<'a> {
 }
 
 // The bytes from a place up to another one, as far as there are such bytes.
-pub(crate) fn part(line: &[u8], start: usize, end: usize) -> &[u8]
+fn part(line: &[u8], start: usize, end: usize) -> &[u8]
     ensures { result.now ≡ slice_range line.now start end }
 {
     let end = end.min(line.len());

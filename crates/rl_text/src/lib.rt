@@ -2,6 +2,7 @@
 #![tactic(auto)]
 
 pub mod cursor;
+pub mod decimal;
 pub mod lexeme;
 pub mod line;
 mod number;

@@ -2,7 +2,7 @@
 ghost use Rattle.std.specs.Prelude.{◌≡◌, ℕ, ◌+◌, ◌-◌, ◌≤◌, ◌<◌, ◌∷◌, ◌==◌, not, length, map, take, drop, IfOk};
 ghost use Rattle.std.specs.List.{prefix_len};
 ghost use Rattle.rl_defs.specs.Lines.{lines_of};
-ghost use Rattle.rl_text.specs.Places.{text_of, IsWithin, AreLines, AreNumbered};
+ghost use Rattle.rl_text.specs.Places.{text_of, IsWithin, AreLines, AreNumbered, first_number};
 ghost use Rattle.rl_text.specs.Cuts.{IsCut, kept};
 
 use rl_defs::Memory;
@@ -57,6 +57,16 @@ pub fn lines(alloc: Global, bytes: &[u8]) -> Result<Vec<Line>, Memory>
         start += cut.whole;
     }
     Ok(all)
+}
+
+/// The number of the first line, or 1 where there is none.
+pub fn first_number(lines: &[Line]) -> u32
+    ensures { result ≡ first_number lines.now }
+{
+    match lines {
+        [] => 1,
+        [first, ..] => first.number,
+    }
 }
 
 // Where the first line ends, without what ends it and with it.

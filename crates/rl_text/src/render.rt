@@ -1,13 +1,11 @@
 //! The canonical spelling of a line's tokens.
-ghost use Rattle.std.specs.Prelude.{◌≡◌, ℕ, ◌+◌, ◌*◌, ◌<◌, List, [], ◌∷◌, ◌++◌, OnOk, IsTrue, OnErr, replicate, map, slice_range};
+ghost use Rattle.std.specs.Prelude.{◌≡◌, ℕ, ◌+◌, ◌*◌, ◌<◌, List, [], ◌∷◌, ◌++◌, OnOk, IsTrue, OnErr, replicate, map};
 ghost use Rattle.std.specs.Fmt.{decimal};
 ghost use Rattle.rl_defs.specs.Canonical.{token_text, opens, closes, is_word_token, is_parenthesis, has_gap, gap, render_behind, render, render_line};
 ghost use Rattle.rl_defs.specs.Tokens as t;
-ghost use Rattle.rl_text.specs.Lexemes.{token_of};
+ghost use Rattle.rl_text.specs.Pieces.{piece_token};
 ghost use Rattle.rl_defs.specs.Words.{is_name};
 
-use crate::cursor::part;
-use crate::lexeme::Lexeme;
 use crate::scan::{key_text, mark_text};
 use rl_defs::Memory;
 use rl_defs::lexeme::{Key, Mark};
@@ -15,11 +13,21 @@ use rl_defs::name::Name;
 use std::alloc::Global;
 use std::marker::Model;
 
+// A token that is to be written.
+#[derive(Clone, Copy, Debug)]
+pub(crate) enum Piece<'a> {
+    Word(Name),
+    Key(Key),
+    Number(u64),
+    // The bytes between the quotes.
+    Text(&'a [u8]),
+    Mark(Mark),
+}
+
 /// The tokens of a line that is to be written. Contracts see the list of them.
 #[derive(Drop)]
 pub struct Spelling<'a> {
-    text: &'a [u8],
-    lexemes: Vec<Lexeme>,
+    pieces: Vec<Piece<'a>>,
 }
 
 impl<'a> Model for Spelling<'a> {
@@ -28,19 +36,18 @@ impl<'a> Model for Spelling<'a> {
 
     ghost Value = { List Token };
 
-    ghost use Rattle.rl_text.specs.Lexemes.{token_of};
+    ghost use Rattle.rl_text.specs.Pieces.{piece_token};
 
-    ghost view = { λ s. map (token_of s.text.now) s.lexemes.items };
+    ghost view = { λ s. map piece_token s.pieces.items };
 }
 
 impl<'a> Spelling<'a> {
-    /// No tokens yet. The line's text tokens, if it has any, are parts of this text.
-    pub fn new(alloc: Global, text: &'a [u8]) -> Spelling<'a>
+    /// No tokens yet.
+    pub fn new(alloc: Global) -> Spelling<'a>
         ensures { result ≡ [] }
     {
         Spelling {
-            text,
-            lexemes: Vec::new(alloc),
+            pieces: Vec::new(alloc),
         }
     }
 
@@ -48,14 +55,14 @@ impl<'a> Spelling<'a> {
     pub fn clear(&mut self)
         ensures { self.new ≡ [] }
     {
-        self.lexemes.clear();
+        self.pieces.clear();
     }
 
     /// Puts a word that isn't reserved last.
     pub fn name(&mut self, name: Name) -> Result<(), Memory>
         ensures { OnOk result (self.new ≡ self.old ++ t.Name name ∷ []) }
     {
-        push(&mut self.lexemes, Lexeme::Word(name))
+        push(&mut self.pieces, Piece::Word(name))
     }
 
     /// Puts a word that isn't reserved last, by its bytes.
@@ -73,28 +80,35 @@ impl<'a> Spelling<'a> {
     pub fn key(&mut self, key: Key) -> Result<(), Memory>
         ensures { OnOk result (self.new ≡ self.old ++ t.Reserved key ∷ []) }
     {
-        push(&mut self.lexemes, Lexeme::Key(key))
+        push(&mut self.pieces, Piece::Key(key))
     }
 
     /// Puts a number last.
     pub fn number(&mut self, n: u64) -> Result<(), Memory>
         ensures { OnOk result (self.new ≡ self.old ++ t.Number n ∷ []) }
     {
-        push(&mut self.lexemes, Lexeme::Number(n))
+        push(&mut self.pieces, Piece::Number(n))
+    }
+
+    /// Puts a text last: the bytes between its quotes.
+    pub fn text(&mut self, inner: &'a [u8]) -> Result<(), Memory>
+        ensures { OnOk result (self.new ≡ self.old ++ t.Text inner.now ∷ []) }
+    {
+        push(&mut self.pieces, Piece::Text(inner))
     }
 
     /// Puts a mark last.
     pub fn mark(&mut self, mark: Mark) -> Result<(), Memory>
         ensures { OnOk result (self.new ≡ self.old ++ t.Sign mark ∷ []) }
     {
-        push(&mut self.lexemes, Lexeme::Mark(mark))
+        push(&mut self.pieces, Piece::Mark(mark))
     }
 
     /// Puts the bytes of the tokens behind those of `out`. After `Memory` some of them may stand there.
     pub fn write(&self, alloc: Global, out: &mut Vec<u8>) -> Result<(), Memory>
         ensures { OnOk result (out.new.items ≡ out.old.items ++ render self.now) }
     {
-        put_tokens(alloc, out, self.text, &self.lexemes)
+        put_tokens(alloc, out, &self.pieces)
     }
 
     /// Puts a whole line behind the bytes of `out`: four blanks for each open block, the tokens and a line feed. After `Memory`
@@ -109,10 +123,10 @@ impl<'a> Spelling<'a> {
     }
 }
 
-fn push(all: &mut Vec<Lexeme>, lexeme: Lexeme) -> Result<(), Memory>
-    ensures { OnOk result (all.new.items ≡ all.old.items ++ lexeme ∷ []) }
+fn push<T: Drop>(all: &mut Vec<T>, item: T) -> Result<(), Memory>
+    ensures { OnOk result (all.new.items ≡ all.old.items ++ item ∷ []) }
 {
-    match all.push(lexeme) {
+    match all.push(item) {
         Ok(()) => Ok(()),
         Err(_) => Err(Memory),
     }
@@ -146,27 +160,27 @@ fn put_number(alloc: Global, out: &mut Vec<u8>, number: u64) -> Result<(), Memor
 }
 
 // Puts the bytes of a token last.
-fn put_token(alloc: Global, out: &mut Vec<u8>, text: &[u8], lexeme: &Lexeme) -> Result<(), Memory>
-    ensures { OnOk result (out.new.items ≡ out.old.items ++ token_text (token_of text.now lexeme.now)) }
+fn put_token(alloc: Global, out: &mut Vec<u8>, piece: &Piece<'_>) -> Result<(), Memory>
+    ensures { OnOk result (out.new.items ≡ out.old.items ++ token_text (piece_token piece.now)) }
 {
-    match lexeme {
-        Lexeme::Word(name) => put(out, name.bytes()),
-        Lexeme::Key(key) => put(out, key_text(*key)),
-        Lexeme::Number(n) => put_number(alloc, out, *n),
-        Lexeme::Mark(mark) => put(out, mark_text(*mark)),
-        Lexeme::Text { start, end } => {
+    match piece {
+        Piece::Word(name) => put(out, name.bytes()),
+        Piece::Key(key) => put(out, key_text(*key)),
+        Piece::Number(n) => put_number(alloc, out, *n),
+        Piece::Mark(mark) => put(out, mark_text(*mark)),
+        Piece::Text(inner) => {
             put(out, b"\"")?;
-            put(out, part(text, *start as usize, *end as usize))?;
+            put(out, inner)?;
             put(out, b"\"")
         }
     }
 }
 
-fn opens(lexeme: &Lexeme) -> bool
-    ensures { (text : List ℕ) → result ≡ opens (token_of text lexeme.now) }
+fn opens(piece: &Piece<'_>) -> bool
+    ensures { result ≡ opens (piece_token piece.now) }
 {
-    match lexeme {
-        Lexeme::Mark(mark) => match mark {
+    match piece {
+        Piece::Mark(mark) => match mark {
             Mark::OpenParen
             | Mark::OpenBracket
             | Mark::Less
@@ -181,11 +195,11 @@ fn opens(lexeme: &Lexeme) -> bool
     }
 }
 
-fn closes(lexeme: &Lexeme) -> bool
-    ensures { (text : List ℕ) → result ≡ closes (token_of text lexeme.now) }
+fn closes(piece: &Piece<'_>) -> bool
+    ensures { result ≡ closes (piece_token piece.now) }
 {
-    match lexeme {
-        Lexeme::Mark(mark) => match mark {
+    match piece {
+        Piece::Mark(mark) => match mark {
             Mark::CloseParen
             | Mark::CloseBracket
             | Mark::Less
@@ -200,28 +214,28 @@ fn closes(lexeme: &Lexeme) -> bool
     }
 }
 
-fn is_word(lexeme: &Lexeme) -> bool
-    ensures { (text : List ℕ) → result ≡ is_word_token (token_of text lexeme.now) }
+fn is_word(piece: &Piece<'_>) -> bool
+    ensures { result ≡ is_word_token (piece_token piece.now) }
 {
-    match lexeme {
-        Lexeme::Word(_) | Lexeme::Key(_) => true,
+    match piece {
+        Piece::Word(_) | Piece::Key(_) => true,
         _ => false,
     }
 }
 
-fn is_parenthesis(lexeme: &Lexeme) -> bool
-    ensures { (text : List ℕ) → result ≡ is_parenthesis (token_of text lexeme.now) }
+fn is_parenthesis(piece: &Piece<'_>) -> bool
+    ensures { result ≡ is_parenthesis (piece_token piece.now) }
 {
-    match lexeme {
-        Lexeme::Mark(Mark::OpenParen) => true,
+    match piece {
+        Piece::Mark(Mark::OpenParen) => true,
         _ => false,
     }
 }
 
 // Whether a blank stands between two tokens.
 #[tactic(auto, unfolding(rl_defs::specs::Canonical::has_gap))]
-fn has_gap(last: &Lexeme, next: &Lexeme) -> bool
-    ensures { (text : List ℕ) → result ≡ has_gap (token_of text last.now) (token_of text next.now) }
+fn has_gap(last: &Piece<'_>, next: &Piece<'_>) -> bool
+    ensures { result ≡ has_gap (piece_token last.now) (piece_token next.now) }
 {
     !opens(last) && !closes(next) && !(is_word(last) && is_parenthesis(next))
 }
@@ -230,51 +244,44 @@ fn has_gap(last: &Lexeme, next: &Lexeme) -> bool
 fn put_behind(
     alloc: Global,
     out: &mut Vec<u8>,
-    text: &[u8],
-    last: &Lexeme,
-    next: &Lexeme,
+    last: &Piece<'_>,
+    next: &Piece<'_>,
 ) -> Result<(), Memory>
-    ensures { let before = token_of text.now last.now in let behind = token_of text.now next.now in
+    ensures { let before = piece_token last.now in let behind = piece_token next.now in
         OnOk result (out.new.items ≡ out.old.items ++ (gap before behind ++ token_text behind)) }
 {
     if has_gap(last, next) {
         put(out, b" ")?;
     }
-    put_token(alloc, out, text, next)
+    put_token(alloc, out, next)
 }
 
 #[tactic(auto, unfolding(rl_defs::specs::Canonical::render))]
-fn put_tokens(
-    alloc: Global,
-    out: &mut Vec<u8>,
-    text: &[u8],
-    lexemes: &[Lexeme],
-) -> Result<(), Memory>
-    ensures { OnOk result (out.new.items ≡ out.old.items ++ render (map (token_of text.now) lexemes.now)) }
+fn put_tokens(alloc: Global, out: &mut Vec<u8>, pieces: &[Piece<'_>]) -> Result<(), Memory>
+    ensures { OnOk result (out.new.items ≡ out.old.items ++ render (map piece_token pieces.now)) }
 {
-    match lexemes {
+    match pieces {
         [] => Ok(()),
         [first, rest @ ..] => {
-            put_token(alloc, out, text, first)?;
-            put_rest(alloc, out, text, first, rest)
+            put_token(alloc, out, first)?;
+            put_rest(alloc, out, first, rest)
         }
     }
 }
 
 // Puts tokens last, behind another one.
-fn put_rest(
+fn put_rest<'p, 'a>(
     alloc: Global,
     out: &mut Vec<u8>,
-    text: &[u8],
-    first: &Lexeme,
-    rest: &[Lexeme],
+    first: &'p Piece<'a>,
+    rest: &'p [Piece<'a>],
 ) -> Result<(), Memory>
-    ensures { let before = token_of text.now first.now in
-        OnOk result (out.new.items ≡ out.old.items ++ render_behind before (map (token_of text.now) rest.now)) }
+    ensures { let before = piece_token first.now in
+        OnOk result (out.new.items ≡ out.old.items ++ render_behind before (map piece_token rest.now)) }
 {
     let mut last = first;
     'tokens: for next in rest {
-        put_behind(alloc, out, text, last, next)?;
+        put_behind(alloc, out, last, next)?;
         last = next;
     }
     Ok(())

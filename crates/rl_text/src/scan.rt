@@ -3,7 +3,7 @@ ghost use Rattle.std.specs.Prelude.{◌≡◌, ℕ, ◌+◌, ◌-◌, ◌<◌, �
 ghost use Rattle.std.specs.List.{prefix_len, list_all};
 ghost use Rattle.rl_defs.specs.Tokens as bytes;
 ghost use Rattle.rl_defs.specs.Words as words;
-ghost use Rattle.rl_text.specs.Scan.{blanks, is_end, number_at, key_of, word_of, run_of, sign_of, quoted, mark_at, run_at, token_at};
+ghost use Rattle.rl_text.specs.Scan.{blanks, is_end, number_at, key_of, likely_width, likely_key, word_of, run_of, sign_of, quoted, mark_at, run_at, token_at};
 ghost use Rattle.rl_text.specs.Lexemes.{token_of, GivesToken, Scans};
 ghost use Rattle.rl_text.specs.Steps.{Steps};
 ghost use Rattle.rl_text.specs.Places.{text_of};
@@ -12,28 +12,6 @@ use crate::lexeme::Lexeme;
 use crate::number::number_of;
 use rl_defs::lexeme::{Key, Mark};
 use rl_defs::name::Name;
-
-const KEYS: [Key; 19] = [
-    Key::Pub,
-    Key::Struct,
-    Key::Trait,
-    Key::Fn,
-    Key::SelfWord,
-    Key::RRef,
-    Key::RpcResult,
-    Key::Dyn,
-    Key::Mut,
-    Key::Const,
-    Key::Box,
-    Key::Vec,
-    Key::String,
-    Key::Bool,
-    Key::U8,
-    Key::U16,
-    Key::U32,
-    Key::U64,
-    Key::Num,
-];
 
 /// The bytes of a reserved word.
 pub fn key_text(key: Key) -> &'static [u8]
@@ -145,12 +123,60 @@ fn text_len(rest: &[u8]) -> usize
     rest.iter().take_while(|byte| is_text_byte(**byte)).count()
 }
 
+// The one word of a number type that a run can be, by what stands behind its `u`.
+fn likely_width(behind: &[u8]) -> Option<Key>
+    ensures { result ≡ likely_width behind.now }
+{
+    let [second, ..] = behind else {
+        return None;
+    };
+    match second {
+        b'8' => Some(Key::U8),
+        b'1' => Some(Key::U16),
+        b'3' => Some(Key::U32),
+        b'6' => Some(Key::U64),
+        _ => None,
+    }
+}
+
+// The one reserved word that a run can be. One look at its front and its length leaves one comparison, where a table leaves 19.
+fn likely_key(run: &[u8]) -> Option<Key>
+    ensures { result ≡ likely_key run.now }
+{
+    let [first, behind @ ..] = run else {
+        return None;
+    };
+    match first {
+        b'p' => Some(Key::Pub),
+        b's' if behind.len() == 3 => Some(Key::SelfWord),
+        b's' => Some(Key::Struct),
+        b't' => Some(Key::Trait),
+        b'f' => Some(Key::Fn),
+        b'R' if behind.len() == 3 => Some(Key::RRef),
+        b'R' => Some(Key::RpcResult),
+        b'd' => Some(Key::Dyn),
+        b'm' => Some(Key::Mut),
+        b'c' => Some(Key::Const),
+        b'B' => Some(Key::Box),
+        b'V' => Some(Key::Vec),
+        b'S' => Some(Key::String),
+        b'b' => Some(Key::Bool),
+        b'u' => likely_width(behind),
+        b'n' => Some(Key::Num),
+        _ => None,
+    }
+}
+
 // The reserved word of these bytes.
-#[tactic(auto, unfolding(crate::specs::Scan::key_of))]
 fn key_of(run: &[u8]) -> Option<Key>
     ensures { result ≡ key_of run.now }
 {
-    KEYS.iter().copied().find(|key| key_text(*key) == run)
+    let key = likely_key(run)?;
+    if key_text(key) == run {
+        Some(key)
+    } else {
+        None
+    }
 }
 
 // The number that a run stands for.
@@ -173,7 +199,7 @@ fn word_of(run: &[u8]) -> Option<Lexeme>
     if let Some(key) = key_of(run) {
         return Some(Lexeme::Key(key));
     }
-    let name = Name::read(run)?;
+    let name = Name::unreserved(run)?;
     Some(Lexeme::Word(name))
 }
 

@@ -5,9 +5,10 @@ use Rattle.rl_defs.specs.Refusals.{IsFirst}
 use Rattle.rl_defs.specs.IdlParts.{FailsIdl}
 use Rattle.rl_defs.proofs.FirstRefusal.{refuses}
 use Rattle.rl_text.specs.declared.line.Line.{Line}
-use Rattle.rl_text.specs.Places.{text_of}
-use Rattle.idl_syntax.specs.Parts.{block_of, first_number}
-use Rattle.idl_syntax.proofs.PartRules.{SoFar, read_at, read_map, numbered_at, left_open, all_closed, next_line, refused_line, not_outside}
+use Rattle.rl_text.specs.Places.{text_of, first_number}
+use Rattle.idl_syntax.specs.Parts.{block_of}
+use Rattle.rl_text.proofs.ListPlaces.{read_at, read_map, numbered_at}
+use Rattle.idl_syntax.proofs.PartRules.{SoFar, left_open, all_closed, next_line, refused_line, not_outside}
 use Rattle.idl_syntax.proofs.part.read_idl.Goals as goal
 
 abbrev none : Line

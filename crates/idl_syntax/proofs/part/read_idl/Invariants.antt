@@ -1,7 +1,7 @@
 use Rattle.std.proofs.Common.{◌≡◌, ℕ, ◌+◌, ◌<◌, take, map, Some}
 use Rattle.rl_defs.specs.IdlParts.{StandFor, FailsIdl, block_behind, forms_of}
-use Rattle.rl_text.specs.Places.{text_of}
-use Rattle.idl_syntax.specs.Parts.{block_of, first_number}
+use Rattle.rl_text.specs.Places.{text_of, first_number}
+use Rattle.idl_syntax.specs.Parts.{block_of}
 use Rattle.idl_syntax.proofs.part.read_idl.Given as goal
 
 abbrev pub invariant-lines : goal.invariant-lines

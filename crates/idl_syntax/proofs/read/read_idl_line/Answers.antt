@@ -1,6 +1,8 @@
+use Rattle.rl_defs.specs.IdlForms.{IsIdlLine}
 use Rattle.rl_defs.proofs.FirstRefusal.{refuses}
-use Rattle.idl_syntax.proofs.IdlLaws.{skipped_fails}
+use Rattle.rl_text.proofs.FormLaws.{skipped_fails}
+use Rattle.idl_syntax.proofs.IdlLaws.{read, reading}
 use Rattle.idl_syntax.proofs.read.read_idl_line.Goals as goal
 
 pub returns-in-Ok-None : goal.returns-in-Ok-None
-returns-in-Ok-None c = refuses {X = Unit {0}} _ (λ _. Unit {0}) _ c.args.line.now.number 1 c.refused.ensures (skipped_fails _ _ (rw c.in-Ok-None.field-0-is at c.in-Ok-None.ensures))
+returns-in-Ok-None c = refuses {X = Unit {0}} _ (λ _. Unit {0}) _ c.args.line.now.number 1 c.refused.ensures (skipped_fails IsIdlLine read reading _ _ (rw c.in-Ok-None.field-0-is at c.in-Ok-None.ensures))

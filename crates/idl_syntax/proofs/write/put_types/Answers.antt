@@ -1,6 +1,6 @@
 use Rattle.std.proofs.Common.{arith}
 use Rattle.rl_defs.specs.IdlForms.{spell_type}
-use Rattle.idl_syntax.proofs.WriteLaws.{more_step, more_all}
+use Rattle.rl_text.proofs.MoreLaws.{more_step, more_all}
 use Rattle.idl_syntax.proofs.write.put_types.Goals as goal
 
 pub types-preserved : goal.types-preserved

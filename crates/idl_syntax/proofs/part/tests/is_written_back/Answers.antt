@@ -1,5 +1,5 @@
 use Rattle.std.proofs.Common.{arith}
-use Rattle.idl_syntax.proofs.PartRules.{first_one}
+use Rattle.rl_text.proofs.ListPlaces.{first_one}
 use Rattle.idl_syntax.proofs.part.tests.is_written_back.Goals as goal
 
 pub read_idl-requires-clause-room : goal.read_idl-requires-clause-room

@@ -1,12 +1,7 @@
-use Rattle.std.proofs.Common.{◌≡◌, ◌≤◌, arith, length, sym, true, false}
-use Rattle.std.proofs.lemmas.Grind.{common_steps}
+use Rattle.std.proofs.Common.{sym, ◌∙◌}
 use Rattle.rl_defs.specs.Words.{is_word, is_reserved}
-use Rattle.rl_defs.proofs.Names.{kept, named}
+use Rattle.rl_defs.proofs.Names.{taken}
 use Rattle.rl_defs.proofs.name.Name.read.Goals as goal
 
-pub invariant_of-result : goal.invariant_of-result
-invariant_of-result c =
-    let word : is_word c.args.bytes.now ≡ true = sym (c.if-not-is_word.ensures) in
-    let free : is_reserved c.args.bytes.now ≡ false = sym (c.if-is_reserved.ensures) in
-    let fits : length c.args.bytes.now ≤ 24 = grind (arith, common_steps) in
-    kept c.args.bytes.now c.copy_from_slice.new.self c.copy_from_slice.ensures.after fits (named _ _ word free)
+pub returns-then-is_reserved-clause-exact : goal.returns-then-is_reserved-clause-exact
+returns-then-is_reserved-clause-exact c = taken (is_word c.args.bytes.now) (is_reserved c.args.bytes.now) (sym c.is_reserved.ensures ∙ c.if-is_reserved.true)

@@ -1,21 +1,24 @@
 -- Tokens that are written in the canonical spelling are read again.
-use Rattle.std.proofs.Common.{◌≡◌, ℕ, ◌+◌, ◌<◌, ◌≤◌, inl, Bool, true, false, cond, ◌&&◌, not, List, [], ◌∷◌, ◌++◌, length, refl, sym, ap, ◌∙◌, arith}
+use Rattle.std.proofs.Common.{◌≡◌, ℕ, ◌+◌, ◌-◌, ◌<◌, ◌≤◌, inl, Bool, true, false, cond, ◌&&◌, not, List, [], ◌∷◌, ◌++◌, length, refl, sym, ap, subst, ◌∙◌, arith, append_assoc, length-append}
+use Rattle.std.specs.Prelude.{slice_range}
 use Rattle.std.specs.Fmt.{decimal}
 use Rattle.std.specs.Char.{digit_value}
 use Rattle.std.specs.List.{list_all}
 use Rattle.std.specs.Str.Parse.{AllDigits}
 use Rattle.std.proofs.lemmas.Bool.Decides.{nat_tests}
 use Rattle.std.proofs.lemmas.Fmt.{decimal_is_IsNumeral}
+use Rattle.std.proofs.lemmas.List.{take_at, drop_at}
 use Rattle.std.proofs.lemmas.List.Folds.{list_all-append}
 use Rattle.rl_defs.specs.declared.lexeme.Mark.{Mark}
 use Rattle.rl_defs.specs.declared.lexeme.Mark.TheVariants as m
 use Rattle.rl_defs.specs.Words.{is_word, is_word_byte, is_reserved}
 use Rattle.rl_defs.specs.Tokens.{Token, Name, Reserved, Number, Text, Sign, Placed, IsToken, EndsBefore, NoWordByteFirst, ArePlaced, HasTokens, tokens_of, key_text, mark_text, is_blank, is_line_byte, is_text_byte}
 use Rattle.rl_defs.specs.Canonical.{token_text, opens, is_word_token, has_gap, gap, render_behind, render}
+use Rattle.rl_defs.specs.DomainForms.{IsDecimal, AreDecimal, HasDecimals}
 use Rattle.rl_text.proofs.Runs.{and_true}
 use Rattle.rl_text.proofs.TokenLaws.{key_word}
 use Rattle.rl_text.proofs.ReadingLaws.{placed}
-use Rattle.idl_syntax.specs.Writable.{IsWritable, AreWritable}
+use Rattle.rl_text.specs.Writable.{IsWritable, AreWritable}
 
 -- ---- a token's own bytes
 
@@ -87,10 +90,37 @@ gap_blank : (b : Bool) → list_all is_blank (cond b (32 ∷ []) []) ≡ true
 gap_blank true = refl
 gap_blank false = refl
 
+-- The bytes from a place on have these tokens, and their numbers are written in decimal digits.
 pub record Spells (place : ℕ) (ts : List Token) (bytes : List ℕ) : Type 0 where
   pub ps : List Placed
   pub tokens : tokens_of ps ≡ ts
   pub are : ArePlaced place ps bytes
+  pub decimal : (before : List ℕ) → length before ≡ place → AreDecimal (before ++ bytes) ps
+
+own_decimal : (token : Token) (text : List ℕ) (start stop : ℕ) → IsWritable token → slice_range text start stop ≡ token_text token → IsDecimal text token start stop
+own_decimal (Name word) text start stop h e = tt
+own_decimal (Reserved key) text start stop h e = tt
+own_decimal (Number n) text start stop h e = let d = decimal_is_IsNumeral n h in rw e d.0
+own_decimal (Text inner) text start stop h e = tt
+own_decimal (Sign mark) text start stop h e = tt
+
+in_the_middle : (before here behind : List ℕ) (start stop : ℕ) → start ≡ length before → stop ≡ length before + length here → slice_range (before ++ (here ++ behind)) start stop ≡ here
+in_the_middle before here behind start stop from to =
+    let n : stop - start ≡ length here = omega (arith, from, to) in
+    rw (n, drop_at before (here ++ behind) start (sym from)) (take_at here behind (length here) refl)
+
+one_decimal : (place : ℕ) (token : Token) (front bytes before : List ℕ) (ps : List Placed) → length before ≡ place → IsWritable token → ((all : List ℕ) → length all ≡ place + length front + length (token_text token) → AreDecimal (all ++ bytes) ps) → AreDecimal (before ++ (front ++ (token_text token ++ bytes))) (placed token (place + length front) (place + length front + length (token_text token)) ∷ ps)
+one_decimal place token front bytes before ps at valid more =
+    let text : List ℕ = token_text token in
+    let near : before ++ (front ++ (text ++ bytes)) ≡ (before ++ front) ++ (text ++ bytes) = sym (append_assoc before front (text ++ bytes)) in
+    let far : before ++ (front ++ (text ++ bytes)) ≡ ((before ++ front) ++ text) ++ bytes = near ∙ sym (append_assoc (before ++ front) text bytes) in
+    let long : length (before ++ front) ≡ place + length front = omega (arith, length-append before front, at) in
+    let whole : length ((before ++ front) ++ text) ≡ place + length front + length text = omega (arith, length-append (before ++ front) text, long) in
+    let here : slice_range (before ++ (front ++ (text ++ bytes))) (place + length front) (place + length front + length text) ≡ text =
+        ap (λ (x : List ℕ). slice_range x (place + length front) (place + length front + length text)) near ∙ in_the_middle (before ++ front) text bytes (place + length front) (place + length front + length text) (sym long) (ap (λ (n : ℕ). n + length text) (sym long)) in (
+      own_decimal token (before ++ (front ++ (text ++ bytes))) (place + length front) (place + length front + length text) valid here,
+      subst (λ (x : List ℕ). AreDecimal x ps) (sym far) (more ((before ++ front) ++ text) whole),
+    )
 
 one_spells : (place : ℕ) (token : Token) (ts : List Token) (front bytes : List ℕ) → list_all is_blank front ≡ true → IsWritable token → EndsBefore token bytes → Spells (place + length front + length (token_text token)) ts bytes → Spells place (token ∷ ts) (front ++ (token_text token ++ bytes))
 one_spells place token ts front bytes blank valid ends more =
@@ -99,17 +129,18 @@ one_spells place token ts front bytes blank valid ends more =
       ps = p ∷ more.ps;
       tokens = ap (λ (x : List Token). token ∷ x) more.tokens;
       are = (front, token_text token, bytes, record { parts = refl; blank = blank; token = own_bytes token valid; ends = ends; start = refl; stop = refl }, more.are);
+      decimal = λ before at. one_decimal place token front bytes before more.ps at valid more.decimal;
     }
 
 behind_spells : (place : ℕ) (last : Token) (ts : List Token) → AreWritable ts → Spells place ts (render_behind last ts)
 unfolding render_behind
-behind_spells place last [] h = record { ps = []; tokens = refl; are = ([], [], record { parts = refl; blank = refl; comment = inl refl }) }
+behind_spells place last [] h = record { ps = []; tokens = refl; are = ([], [], record { parts = refl; blank = refl; comment = inl refl }); decimal = λ before at. tt }
 behind_spells place last (next ∷ ts) h =
     one_spells place next ts (gap last next) (render_behind next ts) (gap_blank (has_gap last next)) h.0 (ends_behind next ts) (behind_spells (place + length (gap last next) + length (token_text next)) next ts h.1)
 
 pub render_spells : (ts : List Token) → AreWritable ts → Spells 0 ts (render ts)
 unfolding render
-render_spells [] h = record { ps = []; tokens = refl; are = ([], [], record { parts = refl; blank = refl; comment = inl refl }) }
+render_spells [] h = record { ps = []; tokens = refl; are = ([], [], record { parts = refl; blank = refl; comment = inl refl }); decimal = λ before at. tt }
 render_spells (first ∷ ts) h = one_spells 0 first ts [] (render_behind first ts) refl h.0 (ends_behind first ts) (behind_spells (0 + 0 + length (token_text first)) first ts h.1)
 
 -- ---- the bytes of a line
@@ -188,7 +219,7 @@ render_has ts h le = let s = render_spells ts h in (s.ps, s.tokens, record { fit
 
 front_spells : (front : List ℕ) (ts : List Token) → list_all is_blank front ≡ true → AreWritable ts → Spells 0 ts (front ++ render ts)
 unfolding render
-front_spells front [] blank h = record { ps = []; tokens = refl; are = (front, [], record { parts = refl; blank = blank; comment = inl refl }) }
+front_spells front [] blank h = record { ps = []; tokens = refl; are = (front, [], record { parts = refl; blank = blank; comment = inl refl }); decimal = λ before at. tt }
 front_spells front (first ∷ ts) blank h = one_spells 0 first ts front (render_behind first ts) blank h.0 (ends_behind first ts) (behind_spells (0 + length front + length (token_text first)) first ts h.1)
 
 blank_byte : (c : ℕ) → is_blank c ≡ true → is_line_byte c ≡ true
@@ -204,3 +235,7 @@ front_bytes front ts blank h = both_bytes front (render ts) (blank_bytes front b
 -- the same behind blanks
 pub front_has : (front : List ℕ) (ts : List Token) → list_all is_blank front ≡ true → AreWritable ts → length (front ++ render ts) ≤ 2048 → HasTokens ts (front ++ render ts)
 front_has front ts blank h le = let s = front_spells front ts blank h in (s.ps, s.tokens, record { fits = record { short = le; bytes = front_bytes front ts blank h }; tokens = s.are })
+
+-- its numbers are written in decimal digits
+pub front_decimal : (front : List ℕ) (ts : List Token) → list_all is_blank front ≡ true → AreWritable ts → length (front ++ render ts) ≤ 2048 → HasDecimals (front ++ render ts)
+front_decimal front ts blank h le = let s = front_spells front ts blank h in (s.ps, record { fits = record { short = le; bytes = front_bytes front ts blank h }; tokens = s.are }, s.decimal [] refl)
