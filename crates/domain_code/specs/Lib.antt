@@ -1,4 +1,3 @@
-pub mod Whole
 pub mod Verbs
 pub mod Operands
 pub mod Lists

@@ -2,7 +2,7 @@
 ghost use Rattle.std.specs.Prelude.{◌≡◌, ℕ, List, codes};
 ghost use Rattle.rl_text.specs.Reading.{Gives};
 ghost use Rattle.domain_code.specs.Forms.{pair_at, domain_at, slot_at, import_at, words_at, native_of, native_at, function_at, label_at, trap_at, operands_at, by_word_at, behind_name_at, word_line_at, form_at, line_at};
-ghost use Rattle.domain_code.specs.Whole.{GivesWhole};
+ghost use Rattle.rl_text.specs.Whole.{GivesWhole};
 
 use crate::instr;
 use crate::list::all_heads;
