@@ -5,3 +5,6 @@ pub mod ListLaws
 pub mod InstrTakes
 pub mod FormTakes
 pub mod FormAgain
+pub mod DomainLaws
+pub mod Joining
+pub mod PartLaws

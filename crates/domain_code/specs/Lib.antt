@@ -3,3 +3,5 @@ pub mod Operands
 pub mod Lists
 pub mod Instructions
 pub mod Forms
+pub mod Decimals
+pub mod Parts

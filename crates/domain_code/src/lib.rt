@@ -5,4 +5,6 @@ mod form;
 mod instr;
 mod list;
 mod operand;
+pub mod part;
+mod read;
 mod verb;
