@@ -87,8 +87,8 @@ three_takes v ts l rest e =
     let b = next_register_step a.0.1 (λ b. next_register_at b.1 >>= λ c. Some (part (line.Code (three_of v a.0.0 b.0 c.0)) c.1)) (part l rest) a.2 in
     let c = next_register_step b.0.1 (λ c. Some (part (line.Code (three_of v a.0.0 b.0.0 c.0)) c.1)) (part l rest) b.2 in
     moved (Name (three_text v) ∷ ts) (line.Code (three_of v a.0.0 b.0.0 c.0.0)) l c.0.1 rest c.2 (
-      ap (behind (Name (three_text v))) (a.1 ∙ ap (behind (spell_register a.0.0)) (b.1 ∙ ap (λ (t : List Token). Sign m.Comma ∷ spell_register b.0.0 ∷ t) c.1))
-      ∙ ap (λ (t : List Token). t ++ c.0.1) (three_spelled v a.0.0 b.0.0 c.0.0)
+    ap (behind (Name (three_text v))) (a.1 ∙ ap (behind (spell_register a.0.0)) (b.1 ∙ ap (λ (t : List Token). Sign m.Comma ∷ spell_register b.0.0 ∷ t) c.1))
+    ∙ ap (λ (t : List Token). t ++ c.0.1) (three_spelled v a.0.0 b.0.0 c.0.0)
     )
 
 named_spelled : (v : Named) (a : Register) (name : List ℕ) → Name (named_text v) ∷ spell_register a ∷ Sign m.Comma ∷ Name name ∷ [] ≡ spell_instr (named_of v a name)
@@ -127,7 +127,7 @@ hang_takes ts l rest e =
     let n = next_number_step o.0.1 (λ n. next_register_at n.1 >>= λ v. Some (part (line.Code (instr.Hang o.0.0 n.0 v.0)) v.1)) (part l rest) o.2 in
     let v = next_register_step n.0.1 (λ v. Some (part (line.Code (instr.Hang o.0.0 n.0.0 v.0)) v.1)) (part l rest) n.2 in
     moved (Name (codes "hang") ∷ ts) (line.Code (instr.Hang o.0.0 n.0.0 v.0.0)) l v.0.1 rest v.2 (
-      ap (behind (Name (codes "hang"))) (o.1 ∙ ap (behind (spell_register o.0.0)) (n.1 ∙ ap (λ (t : List Token). Sign m.Comma ∷ Number n.0.0 ∷ t) v.1))
+    ap (behind (Name (codes "hang"))) (o.1 ∙ ap (behind (spell_register o.0.0)) (n.1 ∙ ap (λ (t : List Token). Sign m.Comma ∷ Number n.0.0 ∷ t) v.1))
     )
 
 pub unhang_takes : Behind (Name (codes "unhang")) unhang_at
@@ -137,7 +137,7 @@ unhang_takes ts l rest e =
     let o = next_register_step a.0.1 (λ o. next_number_at o.1 >>= λ n. Some (part (line.Code (instr.Unhang a.0.0 o.0 n.0)) n.1)) (part l rest) a.2 in
     let n = next_number_step o.0.1 (λ n. Some (part (line.Code (instr.Unhang a.0.0 o.0.0 n.0)) n.1)) (part l rest) o.2 in
     moved (Name (codes "unhang") ∷ ts) (line.Code (instr.Unhang a.0.0 o.0.0 n.0.0)) l n.0.1 rest n.2 (
-      ap (behind (Name (codes "unhang"))) (a.1 ∙ ap (behind (spell_register a.0.0)) (o.1 ∙ ap (λ (t : List Token). Sign m.Comma ∷ spell_register o.0.0 ∷ t) n.1))
+    ap (behind (Name (codes "unhang"))) (a.1 ∙ ap (behind (spell_register a.0.0)) (o.1 ∙ ap (λ (t : List Token). Sign m.Comma ∷ spell_register o.0.0 ∷ t) n.1))
     )
 
 pub ret_takes : Behind (Name (codes "ret")) ret_at
@@ -219,7 +219,7 @@ behind_args_take target method args ts l rest e =
     let y = bind_some (landing_at x.0.1) (λ way. Some (part (line.Code (instr.Call target method args x.0.0 way.0.code way.0.label)) way.1)) (part l rest) x.2 in
     let front : List Token → List Token = λ t. Name (codes "call") ∷ spell_register target ∷ Sign m.Dot ∷ Name method ∷ Sign m.OpenParen ∷ (args_spelled args ++ t) in
     moved (front ts) (line.Code (instr.Call target method args x.0.0 y.0.0.code y.0.0.label)) l y.0.1 rest y.2 (
-      ap front (results_are ts x.0.0 x.0.1 x.1 ∙ ap (λ (t : List Token). spell_results x.0.0 ++ t) (landing_is x.0.1 y.0.0 y.0.1 y.1)) ∙ call_moved target method args x.0.0 y.0.0 y.0.1
+    ap front (results_are ts x.0.0 x.0.1 x.1 ∙ ap (λ (t : List Token). spell_results x.0.0 ++ t) (landing_is x.0.1 y.0.0 y.0.1 y.1)) ∙ call_moved target method args x.0.0 y.0.0 y.0.1
     )
 
 pub call_takes : Behind (Name (codes "call")) call_at

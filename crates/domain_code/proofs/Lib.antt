@@ -8,3 +8,6 @@ pub mod FormAgain
 pub mod DomainLaws
 pub mod Joining
 pub mod PartLaws
+pub mod WriteLaws
+pub mod OrderLaws
+pub mod WriteAgain

@@ -68,14 +68,18 @@ moved {A} spell ts a b x y e h = let q = both_parts (part a x) (part b y) e in h
 
 pub arg_takes : Takes spell_arg Fine arg_at
 unfolding arg_at
-arg_takes ts a rest e = (elim (either_some (mark_at m.Ampersand ts) lent_at (passed_at ts) (part a rest) e) [
-  | inl x ↦ lent_case a ts x.x rest (mark_takes m.Ampersand ts x.x x.is) x.gives
-  | inr x ↦ passed_case a ts rest x.1
-], tt) where
+arg_takes ts a rest e = (
+  elim (either_some (mark_at m.Ampersand ts) lent_at (passed_at ts) (part a rest) e) [
+    | inl x ↦ lent_case a ts x.x rest (mark_takes m.Ampersand ts x.x x.is) x.gives
+    | inr x ↦ passed_case a ts rest x.1
+  ],
+  tt,
+) where
   lent_case : (a : CallArg) (ts behind rest : List Token) → ts ≡ Sign m.Ampersand ∷ behind → lent_at behind ≡ Some (part a rest) → ts ≡ spell_arg a ++ rest
   lent_case a ts behind rest is e =
       let x = register_step behind (λ r. Some (part (arg.Lent r.0) r.1)) (part a rest) e in
       moved spell_arg ts (arg.Lent x.0.0) a x.0.1 rest x.2 (is ∙ ap (λ (t : List Token). Sign m.Ampersand ∷ t) x.1)
+
   passed_case : (a : CallArg) (ts rest : List Token) → passed_at ts ≡ Some (part a rest) → ts ≡ spell_arg a ++ rest
   passed_case a ts rest e =
       let x = register_step ts (λ r. Some (part (arg.Passed r.0) r.1)) (part a rest) e in

@@ -5,3 +5,5 @@ pub mod Instructions
 pub mod Forms
 pub mod Decimals
 pub mod Parts
+pub mod Laws
+pub mod Writable

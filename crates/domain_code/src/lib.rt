@@ -3,8 +3,10 @@
 
 mod form;
 mod instr;
+pub mod laws;
 mod list;
 mod operand;
 pub mod part;
 mod read;
 mod verb;
+pub mod write;

@@ -152,17 +152,16 @@ pub(crate) fn verb_text(verb: Verb) -> &'static [u8]
 fn among(verbs: &[Verb], word: &[u8]) -> Option<Verb>
     ensures { result ≡ among verbs.now word.now }
 {
-    verbs
-        .iter()
-        .copied()
-        .find(|verb| verb_text(*verb) == word)
+    verbs.iter().copied().find(|verb| verb_text(*verb) == word)
 }
 
 const WITH_A: [Verb; 2] = [
     Verb::Three(Three::Math(MathOp::Add)),
     Verb::Three(Three::Math(MathOp::And)),
 ];
+
 const WITH_C: [Verb; 3] = [Verb::Two(Two::Copy), Verb::Named(Named::Cap), Verb::Call];
+
 const WITH_D: [Verb; 6] = [
     Verb::One(One::Drop),
     Verb::Three(Three::Math(MathOp::Div)),
@@ -171,25 +170,41 @@ const WITH_D: [Verb; 6] = [
     Verb::One(One::DevSize),
     Verb::Domain,
 ];
+
 const WITH_E: [Verb; 1] = [Verb::Three(Three::Math(MathOp::Eq))];
+
 const WITH_G: [Verb; 1] = [Verb::Three(Three::Get)];
+
 const WITH_H: [Verb; 2] = [Verb::Named(Named::Has), Verb::Hang];
+
 const WITH_I: [Verb; 1] = [Verb::Import];
+
 const WITH_J: [Verb; 2] = [Verb::Jmp, Verb::Named(Named::Jz)];
+
 const WITH_L: [Verb; 1] = [Verb::Three(Three::Math(MathOp::Lt))];
+
 const WITH_M: [Verb; 2] = [Verb::Two(Two::Move), Verb::Three(Three::Math(MathOp::Mul))];
+
 const WITH_N: [Verb; 2] = [Verb::Named(Named::New), Verb::Native];
+
 const WITH_O: [Verb; 1] = [Verb::Three(Three::Math(MathOp::Or))];
+
 const WITH_P: [Verb; 1] = [Verb::Put];
+
 const WITH_R: [Verb; 2] = [Verb::Ret, Verb::Three(Three::Math(MathOp::Rem))];
+
 const WITH_S: [Verb; 3] = [
     Verb::Three(Three::Set),
     Verb::Three(Three::Math(MathOp::Sub)),
     Verb::Slot,
 ];
+
 const WITH_T: [Verb; 2] = [Verb::Named(Named::Take), Verb::Trap];
+
 const WITH_U: [Verb; 1] = [Verb::Unhang];
+
 const WITH_W: [Verb; 3] = [Verb::Two(Two::Wget), Verb::Two(Two::Wput), Verb::Words];
+
 const WITH_X: [Verb; 1] = [Verb::Three(Three::Math(MathOp::Xor))];
 
 // The word of these bytes, of those that begin with this letter.
