@@ -1,10 +1,10 @@
 -- Writing parts one behind the other.
-use Rattle.std.proofs.Common.{◌≡◌, ℕ, ◌+◌, ◌<◌, ◌≤◌, true, List, [], ◌∷◌, ◌++◌, length, drop, get_or, refl, sym, ap, ◌∙◌, append_assoc, append-nil}
+use Rattle.std.proofs.Common.{◌≡◌, ℕ, ◌+◌, ◌<◌, ◌≤◌, true, List, ◌∷◌, ◌++◌, length, drop, get_or, refl, sym, ap, ◌∙◌, append_assoc, append-nil}
 use Rattle.std.specs.Prelude.{codes}
 use Rattle.std.proofs.lemmas.List.{at_drop_more, drop_all}
 use Rattle.rl_defs.specs.declared.bundle.Numbered.{Numbered}
 use Rattle.rl_defs.specs.declared.idl.IdlLine.{IdlLine}
-use Rattle.rl_defs.specs.Words.{is_name, same_bytes}
+use Rattle.rl_defs.specs.Words.{is_name}
 use Rattle.rl_defs.specs.Canonical.{render_line}
 use Rattle.rl_defs.specs.IdlForms.{spell_line}
 use Rattle.rl_defs.specs.IdlCanonical.{canonical, depth_of, write_part}

@@ -199,7 +199,9 @@ fn form(alloc: Global, left: &mut Cursor<'_>) -> Result<IdlLine, Stop>
 pub(crate) fn whole_form(alloc: Global, left: &mut Cursor<'_>) -> Result<IdlLine, Stop>
     ensures { GivesWhole result (line_at left.old) }
 {
-    let line = form(alloc, left)?;
-    left.end()?;
-    Ok(line)
+    let read = form(alloc, left);
+    if read.is_ok() {
+        left.end()?;
+    }
+    read
 }

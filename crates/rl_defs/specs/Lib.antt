@@ -30,3 +30,11 @@ pub mod Parts
 pub mod DomainForms
 pub mod DomainParts
 pub mod DomainCanonical
+pub mod DomainValue
+pub mod CodeNames
+pub mod CodeKinds
+pub mod NativeShapes
+pub mod CodeRules
+pub mod Instructions
+pub mod CodeFits
+pub mod LineRows

@@ -1,20 +1,19 @@
 -- Lines whose numbers are written in decimal digits.
-use Rattle.std.proofs.Common.{◌≡◌, ℕ, ◌+◌, ◌-◌, ◌<◌, ◌≤◌, Bool, true, false, ◌&&◌, IsTrue, List, [], ◌∷◌, ◌++◌, length, take, drop, None, refl, sym, ap, subst, ◌∙◌, arith, append_assoc, length-append}
-use Rattle.std.specs.Prelude.{slice_range, ◌↔◌, nat_le}
+use Rattle.std.proofs.Common.{◌≡◌, ℕ, ◌<◌, Bool, true, false, ◌&&◌, IsTrue, List, [], ◌∷◌, ◌++◌, length, drop, None, refl, sym, subst, ◌∙◌, arith}
+use Rattle.std.specs.Prelude.{◌↔◌, nat_le}
 use Rattle.std.specs.List.{list_all}
 use Rattle.std.specs.Char.{is_ascii_digit, digit_value}
 use Rattle.std.specs.Str.Parse.{AllDigits, IsNumeral}
 use Rattle.std.proofs.lemmas.Bool.Decides.{nat_tests}
-use Rattle.std.proofs.lemmas.List.{take_at, drop_at}
-use Rattle.rl_defs.specs.Tokens.{Token, Placed, ArePlaced, IsLine, HasPlaced, is_line_byte}
+use Rattle.rl_defs.specs.Tokens.{Placed, IsLine, is_line_byte}
 use Rattle.rl_defs.specs.DomainForms.{IsDecimal, AreDecimal, HasDecimals}
 use Rattle.rl_text.specs.declared.scan.Scanned.{Scanned}
 use Rattle.rl_text.specs.Lexemes.{token_of}
 use Rattle.rl_text.specs.Scan.{is_end, token_at}
 use Rattle.rl_text.specs.Steps.{body, IsNext}
 use Rattle.rl_text.proofs.Runs.{and_true}
-use Rattle.rl_text.proofs.ReadingLaws.{Agrees, placed, stuck, done}
-use Rattle.rl_text.proofs.StepLaws.{next_step, line_done}
+use Rattle.rl_text.proofs.ReadingLaws.{Agrees, placed, stuck}
+use Rattle.rl_text.proofs.StepLaws.{next_step}
 
 -- ---- digits
 

@@ -19,3 +19,4 @@ pub mod ListPlaces
 pub mod PartRules
 pub mod DecimalLaws
 pub mod KeyLaws
+pub mod ByteLaws

@@ -117,7 +117,7 @@ one_decimal place token front bytes before ps at valid more =
     let long : length (before ++ front) ≡ place + length front = omega (arith, length-append before front, at) in
     let whole : length ((before ++ front) ++ text) ≡ place + length front + length text = omega (arith, length-append (before ++ front) text, long) in
     let here : slice_range (before ++ (front ++ (text ++ bytes))) (place + length front) (place + length front + length text) ≡ text =
-        ap (λ (x : List ℕ). slice_range x (place + length front) (place + length front + length text)) near ∙ in_the_middle (before ++ front) text bytes (place + length front) (place + length front + length text) (sym long) (ap (λ (n : ℕ). n + length text) (sym long)) in (
+    ap (λ (x : List ℕ). slice_range x (place + length front) (place + length front + length text)) near ∙ in_the_middle (before ++ front) text bytes (place + length front) (place + length front + length text) (sym long) (ap (λ (n : ℕ). n + length text) (sym long)) in (
       own_decimal token (before ++ (front ++ (text ++ bytes))) (place + length front) (place + length front + length text) valid here,
       subst (λ (x : List ℕ). AreDecimal x ps) (sym far) (more ((before ++ front) ++ text) whole),
     )
@@ -148,14 +148,14 @@ render_spells (first ∷ ts) h = one_spells 0 first ts [] (render_behind first t
 word_bytes : (c : ℕ) → is_word_byte c ≡ true → is_line_byte c ≡ true
 word_bytes c h = grind (arith, nat_tests)
 
-words_bytes : (cs : List ℕ) → list_all is_word_byte cs ≡ true → list_all is_line_byte cs ≡ true
+pub words_bytes : (cs : List ℕ) → list_all is_word_byte cs ≡ true → list_all is_line_byte cs ≡ true
 words_bytes [] h = refl
 words_bytes (c ∷ cs) h = let p = and_true (is_word_byte c) (list_all is_word_byte cs) h in rw (word_bytes c p.0) (words_bytes cs p.1)
 
 text_byte : (c : ℕ) → is_text_byte c ≡ true → is_line_byte c ≡ true
 text_byte c h = grind (arith, nat_tests)
 
-text_bytes : (cs : List ℕ) → list_all is_text_byte cs ≡ true → list_all is_line_byte cs ≡ true
+pub text_bytes : (cs : List ℕ) → list_all is_text_byte cs ≡ true → list_all is_line_byte cs ≡ true
 text_bytes [] h = refl
 text_bytes (c ∷ cs) h = let p = and_true (is_text_byte c) (list_all is_text_byte cs) h in rw (text_byte c p.0) (text_bytes cs p.1)
 
@@ -166,7 +166,7 @@ digit_bytes : (cs : List ℕ) → AllDigits 10 cs → list_all is_line_byte cs �
 digit_bytes [] h = refl
 digit_bytes (c ∷ cs) h = rw (digit_byte c h.0) (digit_bytes cs h.1)
 
-mark_bytes : (mark : Mark) → list_all is_line_byte (mark_text mark) ≡ true
+pub mark_bytes : (mark : Mark) → list_all is_line_byte (mark_text mark) ≡ true
 mark_bytes m.OpenBrace = refl
 mark_bytes m.CloseBrace = refl
 mark_bytes m.OpenParen = refl
@@ -186,7 +186,7 @@ mark_bytes m.At = refl
 mark_bytes m.Hash = refl
 mark_bytes m.Arrow = refl
 
-is_word_bytes : (word : List ℕ) → is_word word ≡ true → list_all is_line_byte word ≡ true
+pub is_word_bytes : (word : List ℕ) → is_word word ≡ true → list_all is_line_byte word ≡ true
 is_word_bytes word h = words_bytes word (and_true _ (list_all is_word_byte word) h).1
 
 token_bytes : (token : Token) → IsWritable token → list_all is_line_byte (token_text token) ≡ true
@@ -196,7 +196,7 @@ token_bytes (Number n) h = digit_bytes (decimal n) (decimal_is_IsNumeral n h).0.
 token_bytes (Text inner) h = list_all-append is_line_byte inner (34 ∷ []) ∙ rw (text_bytes inner h) refl
 token_bytes (Sign mark) h = mark_bytes mark
 
-both_bytes : (xs ys : List ℕ) → list_all is_line_byte xs ≡ true → list_all is_line_byte ys ≡ true → list_all is_line_byte (xs ++ ys) ≡ true
+pub both_bytes : (xs ys : List ℕ) → list_all is_line_byte xs ≡ true → list_all is_line_byte ys ≡ true → list_all is_line_byte (xs ++ ys) ≡ true
 both_bytes xs ys a b = list_all-append is_line_byte xs ys ∙ rw (a, b) refl
 
 gap_bytes : (b : Bool) → list_all is_line_byte (cond b (32 ∷ []) []) ≡ true
@@ -225,7 +225,7 @@ front_spells front (first ∷ ts) blank h = one_spells 0 first ts front (render_
 blank_byte : (c : ℕ) → is_blank c ≡ true → is_line_byte c ≡ true
 blank_byte c h = grind (arith, nat_tests)
 
-blank_bytes : (cs : List ℕ) → list_all is_blank cs ≡ true → list_all is_line_byte cs ≡ true
+pub blank_bytes : (cs : List ℕ) → list_all is_blank cs ≡ true → list_all is_line_byte cs ≡ true
 blank_bytes [] h = refl
 blank_bytes (c ∷ cs) h = let p = and_true (is_blank c) (list_all is_blank cs) h in rw (blank_byte c p.0) (blank_bytes cs p.1)
 

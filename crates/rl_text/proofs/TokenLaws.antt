@@ -12,7 +12,7 @@ use Rattle.rl_defs.specs.declared.lexeme.Key.{Key}
 use Rattle.rl_defs.specs.declared.lexeme.Key.TheVariants as k
 use Rattle.rl_defs.specs.declared.lexeme.Mark.{Mark}
 use Rattle.rl_defs.specs.declared.lexeme.Mark.TheVariants as m
-use Rattle.rl_defs.specs.Words.{is_word_byte, is_word, is_name, is_reserved, same_bytes, starts_word}
+use Rattle.rl_defs.specs.Words.{is_word_byte, is_word, is_name, is_reserved, starts_word}
 use Rattle.rl_defs.specs.Tokens as t
 use Rattle.rl_defs.specs.Tokens.{Token, IsToken, EndsBefore, NoWordByteFirst, IsNumber, key_text, mark_text, is_text_byte, is_blank}
 use Rattle.rl_text.specs.Scan.{number_at, all_keys, key_of, word_of, run_of, run_at, quoted, text_at, mark_at, token_at}
@@ -156,7 +156,7 @@ decimal_byte c h = grind (arith, nat_tests)
 no_x : (c : ℕ) → digit_value c < 10 → eqb 120 c ≡ false
 no_x c h = grind (arith, nat_tests)
 
-digits_bytes : (radix : ℕ) (cs : List ℕ) → radix ≤ 16 → AllDigits radix cs → list_all is_word_byte cs ≡ true
+pub digits_bytes : (radix : ℕ) (cs : List ℕ) → radix ≤ 16 → AllDigits radix cs → list_all is_word_byte cs ≡ true
 digits_bytes radix [] le h = refl
 digits_bytes radix (c ∷ cs) le h = rw (digit_byte c (omega (arith, h.0))) (digits_bytes radix cs le h.1)
 

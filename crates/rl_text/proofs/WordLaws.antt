@@ -1,6 +1,6 @@
 -- A run that is neither a reserved word nor a name is no word.
-use Rattle.std.proofs.Common.{◌≡◌, ℕ, Bool, true, false, List, Option, Some, None, refl, sym, ◌∙◌}
-use Rattle.std.specs.Prelude.{IsSome, is_some}
+use Rattle.std.proofs.Common.{◌≡◌, ℕ, Bool, true, false, List, Option, Some, None, refl}
+use Rattle.std.specs.Prelude.{IsSome}
 use Rattle.rl_defs.specs.Words.{is_name}
 use Rattle.rl_text.specs.Scan.{key_of, word_of}
 

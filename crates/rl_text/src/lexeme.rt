@@ -6,8 +6,8 @@ ghost use Rattle.rl_text.specs.Lexemes.{token_of};
 ghost use Rattle.rl_text.specs.Places.{text_of, IsWithin};
 
 use crate::line::Line;
-use crate::scan::{Next, next_token};
-use crate::token::{may_be_line, refused};
+use crate::scan::{Next, are_line_bytes, next_token};
+use crate::token::{LONGEST_LINE, refused};
 use rl_defs::LoadFault;
 use rl_defs::lexeme::{Key, Mark};
 use rl_defs::name::Name;
@@ -34,13 +34,20 @@ pub fn lexemes(all: &mut Vec<Lexeme>, bytes: &[u8], line: &Line) -> Result<(), L
 {
     let text = line.text(bytes);
     all.clear();
-    if !may_be_line(text) {
+    if text.len() > LONGEST_LINE {
         return Err(refused(line.number, 1));
     }
+    // The bytes of tokens may stand in a line, so only those behind the last one are tested.
     let mut at = 0;
     'line: loop {
         match next_token(text, at) {
-            Next::End => return Ok(()),
+            Next::End => {
+                let (_, rest) = text.split_at(at);
+                if are_line_bytes(rest) {
+                    return Ok(());
+                }
+                return Err(refused(line.number, 1));
+            }
             Next::Stray => return Err(refused(line.number, 1)),
             Next::Found(found) => {
                 match all.push(found.lexeme) {

@@ -286,3 +286,25 @@ fn put_rest<'p, 'a>(
     }
     Ok(())
 }
+
+#[cfg(test)]
+mod tests {
+    use super::*;
+    use std::test::Fail;
+
+    #[test]
+    fn written(rt: HostRuntime) -> Result<(), Fail> {
+        let mut line = Spelling::new(rt.alloc());
+        line.key(Key::Const).map_err(|_| "memory")?;
+        line.mark(Mark::Ampersand).map_err(|_| "memory")?;
+        line.text(b"a b").map_err(|_| "memory")?;
+        line.number(17).map_err(|_| "memory")?;
+        line.mark(Mark::Comma).map_err(|_| "memory")?;
+        let mut bytes = Vec::new(rt.alloc());
+        line.write_line(rt.alloc(), 1, &mut bytes)
+            .map_err(|_| "memory")?;
+        let wanted: &[u8] = b"    const &\"a b\" 17,\n";
+        assert!(rt; bytes.as_slice() == wanted);
+        Ok(())
+    }
+}

@@ -75,7 +75,7 @@ fn is_blank(byte: u8) -> bool
 fn is_word_byte(byte: u8) -> bool
     ensures { result ≡ words.is_word_byte byte }
 {
-    byte == b'_' || byte.is_ascii_alphanumeric()
+    byte.is_ascii_alphabetic() || byte == b'_' || byte.is_ascii_digit()
 }
 
 fn is_text_byte(byte: u8) -> bool
@@ -87,13 +87,20 @@ fn is_text_byte(byte: u8) -> bool
 fn is_line_byte(byte: u8) -> bool
     ensures { result ≡ bytes.is_line_byte byte }
 {
-    byte == b'\t' || (byte >= 0x20 && byte <= 0x7e)
+    (byte >= 0x20 && byte <= 0x7e) || byte == b'\t'
+}
+
+// How many bytes that may stand in a line come first.
+fn line_len(line: &[u8]) -> usize
+    ensures { result ≡ prefix_len bytes.is_line_byte line.now }
+{
+    line.iter().take_while(|byte| is_line_byte(**byte)).count()
 }
 
 pub(crate) fn are_line_bytes(line: &[u8]) -> bool
     ensures { result ≡ list_all bytes.is_line_byte line.now }
 {
-    line.iter().all(|byte| is_line_byte(*byte))
+    line_len(line) == line.len()
 }
 
 pub(crate) fn blanks(rest: &[u8]) -> usize

@@ -1,0 +1,64 @@
+-- What is kept beside the lines of a checked domain, so that no step of a run looks a name up.
+use Rattle.std.specs.Prelude.{◌≡◌, ℕ, ◌+◌, ◌<◌, List, [], ◌∷◌, length, Option, Some, None, slice_get, slice_range, unwrap_or}
+use Rattle.rl_defs.specs.declared.bundle.Numbered.{Numbered}
+use Rattle.rl_defs.specs.declared.code.Register.{Register}
+use Rattle.rl_defs.specs.declared.code.Instr.{Instr}
+use Rattle.rl_defs.specs.declared.code.Instr.TheVariants as instr
+use Rattle.rl_defs.specs.declared.code.DomainLine.{DomainLine}
+use Rattle.rl_defs.specs.declared.code.DomainLine.TheVariants as line
+use Rattle.rl_defs.specs.declared.tables.MethodRow.{MethodRow}
+use Rattle.rl_defs.specs.DomainValue.{Domain}
+use Rattle.rl_defs.specs.Domains.{body_of_function}
+use Rattle.rl_defs.specs.CodeNames.{struct_number, method_number, methods_of, domain_trait}
+use Rattle.rl_defs.specs.CodeKinds.{Kinds, kinds_at, kind_in, at_label}
+use Rattle.rl_defs.specs.CodeRules.{object_struct, label_of, place_of_label}
+use Rattle.rl_defs.specs.Instructions.{Registers, Stand, with_value, slot_number, import_number, trait_of_kind, behind_heads}
+use Rattle.rl_defs.specs.CodeFits.{Typing, Fits}
+
+-- the struct, slot, import or method that an instruction names, by its number
+abbrev pub number_named : Domain → Kinds → Instr → Option ℕ
+number_named d kinds (instr.New a ty) = Some (struct_number d.tables ty)
+number_named d kinds (instr.Has a slot) = Some (slot_number d slot)
+number_named d kinds (instr.Take a slot) = Some (slot_number d slot)
+number_named d kinds (instr.Put slot a) = Some (slot_number d slot)
+number_named d kinds (instr.Cap a import) = Some (import_number d import)
+number_named d kinds (instr.Call c method args results e label) = Some (unwrap_or (method_number d.tables (trait_of_kind (kind_in kinds c)) method) 0)
+number_named d kinds _ = None
+
+-- the trait of the interface that is called, or the struct of the object whose cell is set
+abbrev pub type_named : Kinds → Instr → Option ℕ
+type_named kinds (instr.Set o i v) = object_struct (kind_in kinds o)
+type_named kinds (instr.Call c method args results e label) = Some (trait_of_kind (kind_in kinds c))
+type_named kinds _ = None
+
+-- these registers lose what they hold
+abbrev pub emptied : List Register → Registers → Registers
+emptied [] regs = regs
+emptied (r ∷ rs) regs = emptied rs (with_value regs r None)
+
+-- Control that comes to a line, with registers that fit these kinds, stands at the line `to` behind the heads there, and these registers
+-- are emptied.
+abbrev pub Leads : Domain → Kinds → ℕ → ℕ → List Register → Type 0
+Leads d kinds at to rs = (types : Typing) (regs : Registers) → Fits types kinds regs → behind_heads d (record { at = at; regs = regs }) ≡ record { at = to; regs = emptied rs regs }
+
+-- what an instruction at a line names
+pub record Names (d : Domain) (n : ℕ) (i : Instr) (number of label : ℕ) : Type 0 where
+  pub named : (k : ℕ) → number_named d (kinds_at d n) i ≡ Some k → number ≡ k
+  pub typed : (k : ℕ) → type_named (kinds_at d n) i ≡ Some k → of ≡ k
+  pub place : (p : ℕ) → place_of_label d n (label_of i) ≡ Some p → label ≡ p
+
+-- where control stands that comes to a line from the line before it
+abbrev pub LeadsHere : Domain → ℕ → ℕ → List Register → Type 0
+LeadsHere d n to rs = Leads d (kinds_at d n) n to rs
+
+-- where control stands that goes to the label of an instruction
+abbrev pub LeadsToLabel : Domain → ℕ → Instr → ℕ → List Register → Type 0
+LeadsToLabel d n i to rs = (p : ℕ) → place_of_label d n (label_of i) ≡ Some p → Leads d (at_label (kinds_at d n) i) p to rs
+
+-- the place of the first line of the function for a method of the domain's trait
+abbrev pub entry_of : Domain → Option MethodRow → Option ℕ
+entry_of d None = None
+entry_of d (Some m) = Some (body_of_function d.lines m.name)
+
+abbrev pub entry_at : Domain → ℕ → Option ℕ
+entry_at d m = entry_of d (slice_get (methods_of d.tables (domain_trait d)) m)
