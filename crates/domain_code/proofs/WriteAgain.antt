@@ -62,8 +62,7 @@ same_forms first (l ∷ ls) = ap (λ (x : List DomainLine). l.form ∷ x) (same_
 
 pub domain_again : (lines : Lines) (text : List ℕ) → text ≡ write_lines 0 lines → IsDomainAgain lines text
 domain_again lines text is h one first =
-    let stand = read_again lines text is h first in
-    (
+    let stand = read_again lines text is h first in (
       ordered_nowhere domain_part domain_forms first (lines_of text) (renumbered first lines) stand (ap (block_behind domain_part) (same_forms first lines) ∙ one.order),
       record { lines = renumbered first lines; stand = stand; cut = one_domain first lines one.once },
     )

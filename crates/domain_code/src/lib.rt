@@ -8,5 +8,7 @@ mod list;
 mod operand;
 pub mod part;
 mod read;
+#[cfg(test)]
+mod tests;
 mod verb;
 pub mod write;

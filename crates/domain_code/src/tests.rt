@@ -208,27 +208,81 @@ fn order(rt: HostRuntime) -> Result<(), Fail> {
     assert_eq!(rt; answer(alloc, b"")?, (0, 0, 0));
     assert_eq!(rt; answer(alloc, b"\n// D\ndomain D: T {\n}\n")?, (1, 0, 0));
     // What a domain declares stands in any order, each kind of it once at most.
-    assert_eq!(rt; answer(alloc, b"domain D: T {\nslot a: S\nwords 1\nimport i: T\nslot b: S\nfn f {\n}\n}\n")?, (1, 0, 0));
-    assert_eq!(rt; answer(alloc, b"domain D: T {\nwords 1\nwords 1\n}\n")?, (0, 3, 2));
-    assert_eq!(rt; answer(alloc, b"domain D: T {\nfn f {\n}\nslot a: S\n}\n")?, (0, 4, 2));
+    assert_eq!(rt;
+        answer(
+            alloc,
+            b"domain D: T {\nslot a: S\nwords 1\nimport i: T\nslot b: S\nfn f {\n}\n}\n"
+        )?,
+        (1, 0, 0)
+    );
+    assert_eq!(rt;
+        answer(alloc, b"domain D: T {\nwords 1\nwords 1\n}\n")?,
+        (0, 3, 2)
+    );
+    assert_eq!(rt;
+        answer(alloc, b"domain D: T {\nfn f {\n}\nslot a: S\n}\n")?,
+        (0, 4, 2)
+    );
     // Beside a native body a domain has imports only.
-    assert_eq!(rt; answer(alloc, b"domain D: T {\nnative fs\nimport i: T\n}\n")?, (1, 0, 0));
-    assert_eq!(rt; answer(alloc, b"domain D: T {\nnative fs\nwords 1\n}\n")?, (0, 3, 2));
-    assert_eq!(rt; answer(alloc, b"domain D: T {\nwords 1\nnative fs\n}\n")?, (0, 3, 2));
-    assert_eq!(rt; answer(alloc, b"domain D: T {\nslot a: S\nnative fs\n}\n")?, (0, 3, 2));
-    assert_eq!(rt; answer(alloc, b"domain D: T {\nnative fs\nfn f {\n}\n}\n")?, (0, 3, 2));
-    assert_eq!(rt; answer(alloc, b"domain D: T {\nnative fs\nnative fs\n}\n")?, (0, 3, 2));
+    assert_eq!(rt;
+        answer(alloc, b"domain D: T {\nnative fs\nimport i: T\n}\n")?,
+        (1, 0, 0)
+    );
+    assert_eq!(rt;
+        answer(alloc, b"domain D: T {\nnative fs\nwords 1\n}\n")?,
+        (0, 3, 2)
+    );
+    assert_eq!(rt;
+        answer(alloc, b"domain D: T {\nwords 1\nnative fs\n}\n")?,
+        (0, 3, 2)
+    );
+    assert_eq!(rt;
+        answer(alloc, b"domain D: T {\nslot a: S\nnative fs\n}\n")?,
+        (0, 3, 2)
+    );
+    assert_eq!(rt;
+        answer(alloc, b"domain D: T {\nnative fs\nfn f {\n}\n}\n")?,
+        (0, 3, 2)
+    );
+    assert_eq!(rt;
+        answer(alloc, b"domain D: T {\nnative fs\nnative fs\n}\n")?,
+        (0, 3, 2)
+    );
     // Behind `jmp`, `ret` and `trap` stands a head or the `}`.
-    assert_eq!(rt; answer(alloc, b"domain D: T {\nfn f {\nl:\njmp l\nm: r0 num\nret\nn:\ntrap\n}\n}\n")?, (1, 0, 0));
-    assert_eq!(rt; answer(alloc, b"domain D: T {\nfn f {\nret\nret\n}\n}\n")?, (0, 4, 2));
-    assert_eq!(rt; answer(alloc, b"domain D: T {\nfn f {\njmp l\n\ntrap\n}\n}\n")?, (0, 5, 2));
-    assert_eq!(rt; answer(alloc, b"domain D: T {\nfn f {\njz r0, l\nwords 1\n}\n}\n")?, (0, 4, 2));
+    assert_eq!(rt;
+        answer(
+            alloc,
+            b"domain D: T {\nfn f {\nl:\njmp l\nm: r0 num\nret\nn:\ntrap\n}\n}\n"
+        )?,
+        (1, 0, 0)
+    );
+    assert_eq!(rt;
+        answer(alloc, b"domain D: T {\nfn f {\nret\nret\n}\n}\n")?,
+        (0, 4, 2)
+    );
+    assert_eq!(rt;
+        answer(alloc, b"domain D: T {\nfn f {\njmp l\n\ntrap\n}\n}\n")?,
+        (0, 5, 2)
+    );
+    assert_eq!(rt;
+        answer(alloc, b"domain D: T {\nfn f {\njz r0, l\nwords 1\n}\n}\n")?,
+        (0, 4, 2)
+    );
     // A block that is left open, and a line that closes none.
     assert_eq!(rt; answer(alloc, b"domain D: T {\nfn f {\n}\n")?, (0, 4, 2));
-    assert_eq!(rt; answer(alloc, b"domain D: T {\ndomain E: T {\n}\n}\n")?, (0, 2, 2));
+    assert_eq!(rt;
+        answer(alloc, b"domain D: T {\ndomain E: T {\n}\n}\n")?,
+        (0, 2, 2)
+    );
     assert_eq!(rt; answer(alloc, b"domain D: T {\n}\n}\n")?, (0, 3, 2));
     // The first failing line counts, and there the lower rule.
     assert_eq!(rt; answer(alloc, b"ret\nret r32\n")?, (0, 1, 2));
-    assert_eq!(rt; answer(alloc, b"domain D: T {\nfn f {\nhang r0, 0x0, r1\nret\nret\n}\n}\n")?, (0, 3, 1));
+    assert_eq!(rt;
+        answer(
+            alloc,
+            b"domain D: T {\nfn f {\nhang r0, 0x0, r1\nret\nret\n}\n}\n"
+        )?,
+        (0, 3, 1)
+    );
     Ok(())
 }
