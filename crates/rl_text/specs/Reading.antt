@@ -1,5 +1,5 @@
 -- Reading parts of a line from the front of its tokens.
-use Rattle.std.specs.Prelude.{◌≡◌, ℕ, Bool, ◌==◌, List, [], ◌∷◌, Option, None, Some, Result, Ok, Err, if◌then◌else◌}
+use Rattle.std.specs.Prelude.{◌≡◌, ℕ, Bool, true, false, ◌==◌, List, [], ◌∷◌, Option, None, Some, Result, Ok, Err, if◌then◌else◌}
 use Rattle.std.specs.Cmp.Lexicographic.{pointwise}
 use Rattle.rl_defs.specs.declared.lexeme.Key.{Key}
 use Rattle.rl_defs.specs.declared.lexeme.Key.TheVariants as k
@@ -127,3 +127,8 @@ first_key _ = None
 abbrev pub behind_first : List Token → List Token
 behind_first [] = []
 behind_first (token ∷ rest) = rest
+
+-- nothing is left
+abbrev pub none_left : List Token → Bool
+none_left [] = true
+none_left (token ∷ rest) = false

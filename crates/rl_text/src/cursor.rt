@@ -1,6 +1,6 @@
 //! The tokens of a line that are still to be read.
 ghost use Rattle.std.specs.Prelude.{◌≡◌, ℕ, List, MatchBool, Some, None, slice_range};
-ghost use Rattle.rl_text.specs.Reading.{Gives, Passes, name_at, number_at, text_at, mark_at, key_at, word_at, end_at, first_key, behind_first};
+ghost use Rattle.rl_text.specs.Reading.{Gives, Passes, name_at, number_at, text_at, mark_at, key_at, word_at, end_at, first_key, behind_first, none_left};
 
 use crate::lexeme::Lexeme;
 use rl_defs::lexeme::{Key, Mark};
@@ -178,6 +178,16 @@ impl<'a> Cursor<'a> {
         match self.left {
             [_, rest @ ..] => self.left = rest,
             [] => {}
+        }
+    }
+
+    /// Whether nothing is left.
+    pub fn is_empty(&self) -> bool
+        ensures { result ≡ none_left self.now }
+    {
+        match self.left {
+            [] => true,
+            _ => false,
         }
     }
 

@@ -1,0 +1,13 @@
+pub mod Registers
+pub mod VerbLaws
+pub mod OperandLaws
+pub mod ListLaws
+pub mod InstrTakes
+pub mod FormTakes
+pub mod FormAgain
+pub mod DomainLaws
+pub mod Joining
+pub mod PartLaws
+pub mod WriteLaws
+pub mod OrderLaws
+pub mod WriteAgain
