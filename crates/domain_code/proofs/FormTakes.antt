@@ -1,5 +1,5 @@
 -- Lines: what is read is spelled so.
-use Rattle.std.proofs.Common.{◌≡◌, ℕ, inl, inr, Bool, true, false, cond, List, [], ◌∷◌, ◌++◌, Option, Some, None, refl, sym, ap, subst, ◌∙◌, append_assoc, append-nil}
+use Rattle.std.proofs.Common.{◌≡◌, ℕ, inl, inr, Bool, true, false, cond, List, [], ◌∷◌, ◌++◌, Some, None, refl, sym, ap, ◌∙◌, append-nil}
 use Rattle.std.specs.Prelude.{codes, nat_eq}
 use Rattle.std.specs.Cmp.Lexicographic.{pointwise}
 use Rattle.std.proofs.lemmas.Slice.Eq.{slice_eq-Decides}
@@ -11,9 +11,9 @@ use Rattle.rl_defs.specs.declared.code.DomainLine.{DomainLine}
 use Rattle.rl_defs.specs.declared.code.DomainLine.TheVariants as line
 use Rattle.rl_defs.specs.declared.lexeme.Key.TheVariants as k
 use Rattle.rl_defs.specs.declared.lexeme.Mark.TheVariants as m
-use Rattle.rl_defs.specs.Tokens.{Token, Name, Reserved, Number, Sign}
+use Rattle.rl_defs.specs.Tokens.{Token, Name, Reserved, Sign}
 use Rattle.rl_defs.specs.DomainForms.{spell_native, spell_head, spell_line}
-use Rattle.rl_text.specs.Reading.{◌>>=◌, either, name_at, number_at, mark_at, key_at, end_at}
+use Rattle.rl_text.specs.Reading.{◌>>=◌, either, name_at, mark_at, key_at, end_at}
 use Rattle.rl_text.proofs.PartLaws.{part, both_parts, bind_some, either_some, mark_takes, key_takes, end_takes, mark_step, name_step, number_step}
 use Rattle.domain_code.specs.declared.verb.Verb.{Verb}
 use Rattle.domain_code.specs.declared.verb.Verb.TheVariants as verb

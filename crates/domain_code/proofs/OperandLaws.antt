@@ -1,12 +1,12 @@
 -- What stands behind the word of a line: what is read is spelled so, and what is spelled so is read.
-use Rattle.std.proofs.Common.{◌≡◌, ℕ, List, [], ◌∷◌, ◌++◌, Option, Some, None, refl, sym, ap, subst, ◌∙◌}
+use Rattle.std.proofs.Common.{◌≡◌, ℕ, List, [], ◌∷◌, ◌++◌, Option, Some, refl, ap, ◌∙◌}
 use Rattle.std.specs.Prelude.{codes}
 use Rattle.std.specs.Fmt.{decimal}
 use Rattle.rl_defs.specs.declared.code.Register.{Register}
 use Rattle.rl_defs.specs.declared.lexeme.Mark.TheVariants as m
 use Rattle.rl_defs.specs.Tokens.{Token, Name, Number, Sign}
 use Rattle.rl_defs.specs.DomainForms.{spell_register, spell_one}
-use Rattle.rl_text.specs.Reading.{◌>>=◌, name_at, number_at, mark_at}
+use Rattle.rl_text.specs.Reading.{◌>>=◌, name_at, number_at}
 use Rattle.rl_text.proofs.PartLaws.{Part, part, both_parts, bind_some, mark_step, name_step, name_takes, number_takes, name_again, number_again, mark_again, Takes, Again}
 use Rattle.rl_text.proofs.ManyLaws.{AllValid, Shortens, shortens}
 use Rattle.domain_code.specs.Operands.{register_of, named_register, register_at, next_register_at, next_name_at, next_number_at}

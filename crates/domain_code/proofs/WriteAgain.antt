@@ -1,5 +1,5 @@
 -- A domain that is written is read again.
-use Rattle.std.proofs.Common.{◌≡◌, ℕ, ◌+◌, inl, inr, Bool, true, false, List, [], ◌∷◌, ◌++◌, refl, sym, ap, subst, ◌∙◌}
+use Rattle.std.proofs.Common.{◌≡◌, ℕ, ◌+◌, inr, Bool, true, false, List, [], ◌∷◌, ◌++◌, refl, sym, ap, subst, ◌∙◌}
 use Rattle.rl_defs.specs.declared.bundle.Numbered.{Numbered}
 use Rattle.rl_defs.specs.declared.code.DomainLine.{DomainLine}
 use Rattle.rl_defs.specs.declared.code.DomainText.{DomainText}
@@ -9,7 +9,7 @@ use Rattle.rl_defs.specs.Tokens.{Token}
 use Rattle.rl_defs.specs.Canonical.{render_line}
 use Rattle.rl_defs.specs.Parts.{StandFor, numbered, block_behind, forms_of}
 use Rattle.rl_defs.specs.DomainForms.{spell_line, HasDecimals, PlaceIsDecimal, IsDomainLine}
-use Rattle.rl_defs.specs.DomainParts.{domain_part, begins_domain, rest_of_domain, domains_of}
+use Rattle.rl_defs.specs.DomainParts.{domain_part, rest_of_domain, domains_of}
 use Rattle.rl_defs.specs.DomainCanonical.{depth_of, depth_behind, write_lines}
 use Rattle.rl_text.proofs.WrittenLines.{written_first, written_has, written_decimal}
 use Rattle.domain_code.specs.Decimals.{names_place}

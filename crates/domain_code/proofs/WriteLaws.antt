@@ -1,5 +1,5 @@
 -- Writing lines, one behind the other.
-use Rattle.std.proofs.Common.{◌≡◌, ℕ, ◌+◌, ◌/◌, ◌%◌, ◌<◌, ◌≤◌, ◌^◌, true, List, [], ◌∷◌, ◌++◌, length, drop, get_or, refl, sym, ap, ◌∙◌, append_assoc, append-nil, arith}
+use Rattle.std.proofs.Common.{◌≡◌, ℕ, ◌+◌, ◌/◌, ◌%◌, ◌<◌, ◌≤◌, true, List, [], ◌∷◌, ◌++◌, length, drop, get_or, refl, sym, ap, ◌∙◌, append_assoc, append-nil, arith}
 use Rattle.std.specs.Fmt.{decimal}
 use Rattle.std.proofs.lemmas.Fmt.{decimal_digit, decimal_step}
 use Rattle.std.proofs.lemmas.List.{at_drop_more, drop_all}
@@ -9,7 +9,7 @@ use Rattle.rl_defs.specs.declared.code.MathOp.TheVariants as op
 use Rattle.rl_defs.specs.declared.code.DomainLine.{DomainLine}
 use Rattle.rl_defs.specs.Words.{is_name}
 use Rattle.rl_defs.specs.Domains.{Lines}
-use Rattle.rl_defs.specs.Tokens.{Token, Name}
+use Rattle.rl_defs.specs.Tokens.{Name}
 use Rattle.rl_defs.specs.Canonical.{render_line}
 use Rattle.rl_defs.specs.DomainForms.{spell_one, spell_line}
 use Rattle.rl_defs.specs.DomainCanonical.{depth_of, depth_behind, write_lines}

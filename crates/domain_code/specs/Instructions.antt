@@ -1,5 +1,5 @@
 -- Instructions, behind their words.
-use Rattle.std.specs.Prelude.{ℕ, List, [], ◌∷◌, Option, None, Some, codes}
+use Rattle.std.specs.Prelude.{ℕ, List, [], Some, codes}
 use Rattle.rl_defs.specs.declared.code.Register.{Register}
 use Rattle.rl_defs.specs.declared.code.CallArg.{CallArg}
 use Rattle.rl_defs.specs.declared.code.Instr.{Instr}
@@ -7,7 +7,6 @@ use Rattle.rl_defs.specs.declared.code.Instr.TheVariants as instr
 use Rattle.rl_defs.specs.declared.code.DomainLine.{DomainLine}
 use Rattle.rl_defs.specs.declared.code.DomainLine.TheVariants as line
 use Rattle.rl_defs.specs.declared.lexeme.Mark.TheVariants as m
-use Rattle.rl_defs.specs.Tokens.{Token}
 use Rattle.rl_text.specs.Reading.{Reader, ◌>>=◌, either, name_at, mark_at, word_at}
 use Rattle.domain_code.specs.declared.verb.One.{One}
 use Rattle.domain_code.specs.declared.verb.One.TheVariants as one

@@ -1,5 +1,5 @@
 -- The words that lines of the domain part begin with, but for the reserved ones.
-use Rattle.std.specs.Prelude.{ℕ, ◌==◌, List, [], ◌∷◌, Option, None, Some, find, if◌then◌else◌, codes}
+use Rattle.std.specs.Prelude.{ℕ, ◌==◌, List, [], ◌∷◌, Option, None, find, if◌then◌else◌, codes}
 use Rattle.std.specs.Cmp.Lexicographic.{pointwise}
 use Rattle.rl_defs.specs.declared.code.MathOp.{MathOp}
 use Rattle.rl_defs.specs.declared.code.MathOp.TheVariants as op

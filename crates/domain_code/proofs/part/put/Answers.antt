@@ -1,8 +1,8 @@
-use Rattle.std.proofs.Common.{◌≡◌, ◌-◌, ◌<◌, suc, List, ◌∷◌, ◌++◌, length, set, vec_len, refl, sym, subst, ◌∙◌, ap, arith}
+use Rattle.std.proofs.Common.{◌≡◌, ◌-◌, ◌<◌, suc, List, length, set, vec_len, refl, sym, subst, ◌∙◌, arith}
 use Rattle.rl_defs.specs.declared.code.DomainText.{DomainText}
 use Rattle.rl_defs.specs.Domains.{Lines}
 use Rattle.domain_code.specs.Parts.{Joins}
-use Rattle.domain_code.proofs.Joining.{on_ok, of_lines, joins_new, joins_last, joins_nothing}
+use Rattle.domain_code.proofs.Joining.{on_ok, of_lines, joins_new, joins_last}
 use Rattle.domain_code.proofs.part.put.Goals as goal
 
 pub returns-then-begins_domain : goal.returns-then-begins_domain

@@ -1,6 +1,6 @@
 use Rattle.std.proofs.Common.{arith}
 use Rattle.rl_defs.specs.DomainForms.{spell_head}
-use Rattle.rl_text.proofs.MoreLaws.{more_step, more_all}
+use Rattle.rl_text.proofs.MoreLaws.{more_all}
 use Rattle.domain_code.proofs.write.put_more_heads.Goals as goal
 
 pub returns : goal.returns
