@@ -31,11 +31,11 @@ no_number (Some n) e = absurd (cc)
 
 pub near : (d : Domain) (sight : Sight) (s : Stand) → KeepsRules d → Fitting d sight s → IsNear sight
 near d sight s keeps fitting = record {
-    few_cells = λ o at le.
+  few_cells = λ o at le.
       let small = small_struct d.tables (fitting.types.struct_of o) keeps.small in
       no_number (sight.cell o at) (fitting.sees.cells o at ∙ ap is_number_cell (slice_get_past (cells_of d.tables (fitting.types.struct_of o)) at (omega arith)));
-    few_words = fitting.sees.words;
-  }
+  few_words = fitting.sees.words;
+}
 
 -- a line that was read
 pub line_here : (xs lines : Lines) (n : ℕ) (l : Numbered DomainLine) (i : Instr) → xs ≡ lines → n < length lines → l ≡ slice_index_or xs n l → (slice_index_or xs n l).form ≡ line.Code i → slice_get lines n ≡ Some (record { line = l.line; form = line.Code i })
@@ -78,9 +78,10 @@ goes_label d sight live n before behind keeps from is =
     let at = from.at.at in
     let i = from.at.instr in
     let safely = subst (λ o. Safe types d (kinds_at d n) i o) is (safe_at d types sight live (record { at = n; regs = before }) at.number i keeps from.fits.sees from.fits.stand at.here) in
-    let p = has_place d n at.number i safely.1.0 keeps at.here safely.1.1 in
-    (record { types = types; instr = i; at = record { number = at.number; here = at.here }; place = p.0; leads = p.1; fits = safely.0 },
-      record { types = types; stand = stands_jumped d types n at.number i safely.1.0 behind keeps at.here safely.1.1 safely.0; sees = from.fits.sees })
+    let p = has_place d n at.number i safely.1.0 keeps at.here safely.1.1 in (
+      record { types = types; instr = i; at = record { number = at.number; here = at.here }; place = p.0; leads = p.1; fits = safely.0 },
+      record { types = types; stand = stands_jumped d types n at.number i safely.1.0 behind keeps at.here safely.1.1 safely.0; sees = from.fits.sees },
+    )
 
 -- the heads behind a label are those behind its place
 pub jumps_behind : (d : Domain) (n number p : ℕ) (i : Instr) (regs : Registers) → slice_get d.lines n ≡ Some (record { line = number; form = line.Code i }) → place_of_label d n (label_of i) ≡ Some p → behind_heads d (jumped d n regs) ≡ behind_heads d (record { at = p; regs = regs })

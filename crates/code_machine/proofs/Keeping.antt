@@ -43,7 +43,7 @@ back_at (x ∷ items) before base r wide =
     let v = value_in before x.register in
     back_at items before (with_value base x.register v) r (length-set base x.register.number v ∙ wide)
     ∙ (ap (λ k. if is_listed r (registers_of items) then slice_index_or before r None else k) (value_at base x.register.number r v (omega arith))
-        ∙ chosen (x.register.number == r) (is_listed r (registers_of items)) v (slice_index_or before r None) (slice_index_or base r None) (λ e. ap (λ n. slice_index_or before n None) (eqb-true x.register.number r e)))
+    ∙ chosen (x.register.number == r) (is_listed r (registers_of items)) v (slice_index_or before r None) (slice_index_or base r None) (λ e. ap (λ n. slice_index_or before n None) (eqb-true x.register.number r e)))
 
 length-put_back : (items : List HeadItem) (before base : Registers) → length (put_back items before base) ≡ length base
 length-put_back [] before base = refl
@@ -70,9 +70,9 @@ kept_is items before wide =
     same_all (put_back items before (replicate 32 None)) (kept items before)
     (length-put_back items before (replicate 32 None) ∙ (length-replicate {A = Option Value} 32 None ∙ sym (length-keep before 0 registers ∙ wide)))
     (λ r.
-      back_at items before (replicate 32 None) r (length-replicate {A = Option Value} 32 None)
-      ∙ (ap (λ k. if is_listed r registers then slice_index_or before r None else k) (none_at 32 r)
-          ∙ sym (keep_at before 0 r registers ∙ ap (λ m. if is_listed m registers then slice_index_or before r None else None) (zero-add r))))
+    back_at items before (replicate 32 None) r (length-replicate {A = Option Value} 32 None)
+    ∙ (ap (λ k. if is_listed r registers then slice_index_or before r None else k) (none_at 32 r)
+    ∙ sym (keep_at before 0 r registers ∙ ap (λ m. if is_listed m registers then slice_index_or before r None else None) (zero-add r))))
 
 put_none : (rs : List Register) (regs : Registers) → put_values rs [] regs ≡ regs
 put_none [] regs = refl

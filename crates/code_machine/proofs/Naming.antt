@@ -111,7 +111,7 @@ call_comes d n regs w c method args results e label number of place at comes =
     subst (λ x. Comes (unless_trap (args_fit (params_of (method_called d.tables (kind_in kinds c) method)) (map (given_by regs) args)) cause.Range (action.Call (target (value_in regs c)) x (map (given_by regs) args))) regs regs w)
     (at.names.named m refl)
     (subst (λ x. Comes (unless_trap (args_fit (params_of x) (map (given_by regs) args)) cause.Range (action.Call (target (value_in regs c)) number (map (given_by regs) args))) regs regs w)
-      (sym (called d n c method args results e label number of place at)) comes)
+    (sym (called d n c method args results e label number of place at)) comes)
 
 few_args : (m : Option MethodRow) (args : List CallArg) (results : List Register) → ((x : MethodRow) → m ≡ Some x → length x.params ≤ 8) → has_counts m args results ≡ true → length args ≤ 8
 few_args None args results few h = absurd (cc)
@@ -162,9 +162,9 @@ few_row : (methods : List MethodRow) (o : Option ℕ) → ((m : ℕ) (x : Method
 few_row methods None few = omega arith
 few_row methods (Some m) few = few_some (slice_get methods m) (few m)
   where
-  few_some : (x : Option MethodRow) → ((y : MethodRow) → x ≡ Some y → length y.results ≤ 4) → length (results_of x) ≤ 4
-  few_some None all = omega arith
-  few_some (Some y) all = all y refl
+    few_some : (x : Option MethodRow) → ((y : MethodRow) → x ≡ Some y → length y.results ≤ 4) → length (results_of x) ≤ 4
+    few_some None all = omega arith
+    few_some (Some y) all = all y refl
 
 few_function : (d : Domain) (f : Option Function) → AreTablesSmall d.tables → length (results_of (method_of_function d f)) ≤ 4
 few_function d None small = omega arith
@@ -180,9 +180,9 @@ ret_few d n rs number of place at =
 hung_small : (cells : List Kind) (at : ℕ) → length cells ≤ 512 → is_some (hung_in (slice_get cells at)) ≡ true → at < 2 ^ 32
 hung_small cells at few h = within (slice_get cells at) refl h
   where
-  within : (o : Option Kind) → slice_get cells at ≡ o → is_some (hung_in o) ≡ true → at < 2 ^ 32
-  within None e g = absurd (cc)
-  within (Some k) e g = let lt = slice_get_within cells at k e in omega arith
+    within : (o : Option Kind) → slice_get cells at ≡ o → is_some (hung_in o) ≡ true → at < 2 ^ 32
+    within None e g = absurd (cc)
+    within (Some k) e g = let lt = slice_get_within cells at k e in omega arith
 
 near_cell : (tables : Tables) (k : RegKind) (at : ℕ) → AreTablesSmall tables → is_some (hung_at tables k at) ≡ true → at < 2 ^ 32
 near_cell tables (held.Own s) at small h = hung_small (cells_of tables s) at (small_struct tables s small) h

@@ -25,7 +25,13 @@ pub struct Wanted {
 
 /// The first action or trap of a frame, from the line where it stands, with this fuel and so many live objects. Each instruction before
 /// it costs 1. At fuel 0 it is the trap `fuel`.
-pub fn settle<V: View, N: Drop>(domain: &CheckedDomain, frame: &Frame<N>, view: &V, fuel: u32, live: u32) -> Wanted
+pub fn settle<V: View, N: Drop>(
+    domain: &CheckedDomain,
+    frame: &Frame<N>,
+    view: &V,
+    fuel: u32,
+    live: u32,
+) -> Wanted
     requires { Fitting domain.now (V.sight view.now) (stand_of frame.now.body) }
     ensures wanted { settle domain.now (V.sight view.now) live fuel (stand_of frame.now.body) ≡ Before result.action result.fuel (record { at = result.line; regs = result.registers }) }
     ensures fits { (types : Typing) → FitsStand types domain.now (stand_of frame.now.body) → FitsSight types domain.now (V.sight view.now) → FitsStand types domain.now (record { at = result.line; regs = result.registers }) }
@@ -39,7 +45,14 @@ pub fn settle<V: View, N: Drop>(domain: &CheckedDomain, frame: &Frame<N>, view: 
     }
 }
 
-fn settle_from<V: View>(domain: &CheckedDomain, line: u32, registers: Registers, view: &V, fuel: u32, live: u32) -> Wanted
+fn settle_from<V: View>(
+    domain: &CheckedDomain,
+    line: u32,
+    registers: Registers,
+    view: &V,
+    fuel: u32,
+    live: u32,
+) -> Wanted
     requires { Fitting domain.now (V.sight view.now) (record { at = line; regs = registers }) }
     ensures { settle domain.now (V.sight view.now) live fuel (record { at = line; regs = registers }) ≡ Before result.action result.fuel (record { at = result.line; regs = result.registers }) }
 {

@@ -28,7 +28,12 @@ pub fn put(registers: &mut Registers, register: Register, value: Option<Value>) 
 }
 
 /// Puts a number into a register and goes on. It traps where there is none.
-pub fn put_or_trap(registers: &mut Registers, register: Register, number: Option<u64>, cause: Cause) -> Went
+pub fn put_or_trap(
+    registers: &mut Registers,
+    register: Register,
+    number: Option<u64>,
+    cause: Cause,
+) -> Went
     ensures { Comes (number_or_trap registers.old register cause number) registers.old registers.new result }
 {
     match number {

@@ -72,7 +72,13 @@ fn move_over(registers: &mut Registers, to: Register, from: Register) -> Went
     put(registers, to, value)
 }
 
-fn get<V: View>(view: &V, registers: &mut Registers, to: Register, object: Register, at: Register) -> Went
+fn get<V: View>(
+    view: &V,
+    registers: &mut Registers,
+    to: Register,
+    object: Register,
+    at: Register,
+) -> Went
     ensures { Comes (number_or_trap registers.old to cause.Bounds ((V.sight view.now).cell (object_in registers.old object) (number_in registers.old at))) registers.old registers.new result }
 {
     let number = view.cell(object_in(registers, object), number_in(registers, at));
@@ -128,7 +134,15 @@ fn one(number: u64) -> Numbers
 }
 
 // Sets a cell, where it is there and the number fits it.
-fn set_cell<V: View>(tables: &Tables, of: u32, view: &V, registers: &Registers, object: Register, at: Register, from: Register) -> Went
+fn set_cell<V: View>(
+    tables: &Tables,
+    of: u32,
+    view: &V,
+    registers: &Registers,
+    object: Register,
+    at: Register,
+    from: Register,
+) -> Went
     requires { IsNear (V.sight view.now) }
     ensures { (d : ADomain) → d.tables ≡ tables.now → Comes (setting ((V.sight view.now).cell (object_in registers.now object) (number_in registers.now at)) (cell_kind d (Some of) (number_in registers.now at)) (object_in registers.now object) (number_in registers.now at) (number_in registers.now from)) registers.now registers.now result }
 {
@@ -138,7 +152,11 @@ fn set_cell<V: View>(tables: &Tables, of: u32, view: &V, registers: &Registers, 
     match view.cell(object, place) {
         Some(_) => {
             let allowed = fits(table::cell_kind(tables, of, place), number);
-            act_or_trap(allowed, Cause::Range, Action::Set(object, place as u32, one(number)))
+            act_or_trap(
+                allowed,
+                Cause::Range,
+                Action::Set(object, place as u32, one(number)),
+            )
         }
         None => Went::Act(Action::Trap(Cause::Bounds)),
     }
@@ -167,7 +185,11 @@ fn put_object<V: View>(view: &V, registers: &Registers, slot: u32, object: Regis
     ensures { Comes (unless_trap (is_none ((V.sight view.now).slot slot)) cause.Full (action.Put slot (object_in registers.now object))) registers.now registers.now result }
 {
     let free = view.slot(slot).is_none();
-    act_or_trap(free, Cause::Full, Action::Put(slot, object_in(registers, object)))
+    act_or_trap(
+        free,
+        Cause::Full,
+        Action::Put(slot, object_in(registers, object)),
+    )
 }
 
 fn read_block<V: View>(view: &V, registers: &Registers, object: Register, block: Register) -> Went
@@ -175,7 +197,11 @@ fn read_block<V: View>(view: &V, registers: &Registers, object: Register, block:
 {
     let number = number_in(registers, block);
     let there = number < view.blocks();
-    act_or_trap(there, Cause::Device, Action::DevGet(object_in(registers, object), number))
+    act_or_trap(
+        there,
+        Cause::Device,
+        Action::DevGet(object_in(registers, object), number),
+    )
 }
 
 fn write_block<V: View>(view: &V, registers: &Registers, block: Register, object: Register) -> Went
@@ -183,16 +209,30 @@ fn write_block<V: View>(view: &V, registers: &Registers, block: Register, object
 {
     let number = number_in(registers, block);
     let there = number < view.blocks();
-    act_or_trap(there, Cause::Device, Action::DevPut(number, object_in(registers, object)))
+    act_or_trap(
+        there,
+        Cause::Device,
+        Action::DevPut(number, object_in(registers, object)),
+    )
 }
 
-fn hang<V: View>(view: &V, registers: &Registers, object: Register, at: u64, below: Register) -> Went
+fn hang<V: View>(
+    view: &V,
+    registers: &Registers,
+    object: Register,
+    at: u64,
+    below: Register,
+) -> Went
     requires { at < 2 ^ 32 }
     ensures { Comes (unless_trap (is_none ((V.sight view.now).hung (object_in registers.now object) at)) cause.Full (action.Hang (object_in registers.now object) at (object_in registers.now below))) registers.now registers.now result }
 {
     let parent = object_in(registers, object);
     let free = view.hung(parent, at).is_none();
-    act_or_trap(free, Cause::Full, Action::Hang(parent, at as u32, object_in(registers, below)))
+    act_or_trap(
+        free,
+        Cause::Full,
+        Action::Hang(parent, at as u32, object_in(registers, below)),
+    )
 }
 
 fn unhang<V: View>(view: &V, registers: &Registers, object: Register, at: u64) -> Went
@@ -205,17 +245,34 @@ fn unhang<V: View>(view: &V, registers: &Registers, object: Register, at: u64) -
 }
 
 // Calls the method with this number of the trait `of`, where each number fits its parameter.
-fn call(tables: &Tables, of: u32, method: u32, registers: &Registers, to: Register, args: &[CallArg]) -> Went
+fn call(
+    tables: &Tables,
+    of: u32,
+    method: u32,
+    registers: &Registers,
+    to: Register,
+    args: &[CallArg],
+) -> Went
     requires { length args.now ≤ 8 }
     ensures { Comes (unless_trap (args_fit (params_of (slice_get (methods_of tables.now of) method)) (map (given_by registers.now) args.now)) cause.Range (action.Call (target (value_in registers.now to)) method (map (given_by registers.now) args.now))) registers.now registers.now result }
 {
     let args = given(registers, args);
     let allowed = args_fit(table::params(tables, of, method), args.as_slice());
-    act_or_trap(allowed, Cause::Range, Action::Call(target_in(registers, to), method, args))
+    act_or_trap(
+        allowed,
+        Cause::Range,
+        Action::Call(target_in(registers, to), method, args),
+    )
 }
 
 // Returns from the method with this number of the trait `of`, where each number fits its result.
-fn give_back(tables: &Tables, of: u32, method: u32, registers: &Registers, from: &[Register]) -> Went
+fn give_back(
+    tables: &Tables,
+    of: u32,
+    method: u32,
+    registers: &Registers,
+    from: &[Register],
+) -> Went
     requires { length from.now ≤ 4 }
     ensures { Comes (unless_trap (values_fit (results_of (slice_get (methods_of tables.now of) method)) (map (result_in registers.now) from.now)) cause.Range (action.Ret (map (result_in registers.now) from.now))) registers.now registers.now result }
 {
@@ -225,7 +282,13 @@ fn give_back(tables: &Tables, of: u32, method: u32, registers: &Registers, from:
 }
 
 /// What the instruction at a place comes to.
-pub fn work<V: View>(domain: &CheckedDomain, place: usize, view: &V, live: u32, registers: &mut Registers) -> Went
+pub fn work<V: View>(
+    domain: &CheckedDomain,
+    place: usize,
+    view: &V,
+    live: u32,
+    registers: &mut Registers,
+) -> Went
     requires fits { Fitting domain.now (V.sight view.now) (record { at = place; regs = registers.old }) }
     requires at { AtInstr domain.now (record { at = place; regs = registers.old }) }
     ensures { Comes (work domain.now (V.sight view.now) live (record { at = place; regs = registers.old })) registers.old registers.new result }
@@ -236,7 +299,14 @@ pub fn work<V: View>(domain: &CheckedDomain, place: usize, view: &V, live: u32, 
     }
 }
 
-fn meaning<V: View>(domain: &CheckedDomain, place: usize, view: &V, live: u32, registers: &mut Registers, instr: &Instr) -> Went
+fn meaning<V: View>(
+    domain: &CheckedDomain,
+    place: usize,
+    view: &V,
+    live: u32,
+    registers: &mut Registers,
+    instr: &Instr,
+) -> Went
     requires here { IsLine domain.now place instr.now }
     requires near { IsNear (V.sight view.now) }
     ensures { Comes (meaning domain.now place (kinds_at domain.now place) (V.sight view.now) live registers.old instr.now) registers.old registers.new result }
@@ -264,8 +334,21 @@ fn meaning<V: View>(domain: &CheckedDomain, place: usize, view: &V, live: u32, r
         Instr::DevPut(n, o) => write_block(view, registers, *n, *o),
         Instr::Hang(o, at, v) => hang(view, registers, *o, *at, *v),
         Instr::Unhang(_, o, at) => unhang(view, registers, *o, *at),
-        Instr::Call { target, args, .. } => call(domain.tables(), row.of, row.number, registers, *target, args.as_slice()),
-        Instr::Ret(from) => give_back(domain.tables(), row.of, row.number, registers, from.as_slice()),
+        Instr::Call { target, args, .. } => call(
+            domain.tables(),
+            row.of,
+            row.number,
+            registers,
+            *target,
+            args.as_slice(),
+        ),
+        Instr::Ret(from) => give_back(
+            domain.tables(),
+            row.of,
+            row.number,
+            registers,
+            from.as_slice(),
+        ),
         Instr::Trap => Went::Act(Action::Trap(Cause::Asked)),
     }
 }

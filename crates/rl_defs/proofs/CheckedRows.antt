@@ -1,14 +1,11 @@
 -- The row of a line, in a checked domain that is seen as its lines and tables.
-use Rattle.std.proofs.Common.{◌≡◌, refl, sym, subst, ℕ, ◌<◌, ◌≤◌, List, length, slice_get, Some, arith}
+use Rattle.std.proofs.Common.{◌≡◌, sym, subst, ℕ, ◌<◌, List, length}
 use Rattle.std.proofs.Math.ListN.{get_or}
 use Rattle.std.proofs.lemmas.Option.{slice_get_read}
 use Rattle.rl_defs.specs.declared.code.Register.{Register}
-use Rattle.rl_defs.specs.declared.code.Instr.{Instr}
-use Rattle.rl_defs.specs.declared.code.DomainLine.TheVariants as line
 use Rattle.rl_defs.specs.declared.checked.LineRow.{LineRow}
 use Rattle.rl_defs.specs.DomainValue.{Domain}
-use Rattle.rl_defs.specs.LineRows.{Names, LeadsHere, LeadsToLabel}
-use Rattle.rl_defs.specs.Checked.{IsChecked, IsRow, emptied_on}
+use Rattle.rl_defs.specs.Checked.{IsChecked, IsRow}
 
 pub row_of : (d e : Domain) (rows : List LineRow) (pool : List Register) (entries : List ℕ) → d ≡ e → IsChecked d rows pool entries → (n : ℕ) (row : LineRow) → n < length e.lines → row ≡ get_or rows n row → IsRow e pool n row
 row_of d e rows pool entries is checked n row within read =

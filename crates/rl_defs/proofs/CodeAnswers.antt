@@ -1,6 +1,6 @@
 -- A frame of domain code that keeps the rules fits again behind each answer that its action may get.
-use Rattle.std.proofs.Common.{◌≡◌, refl, sym, ◌∙◌, ap, subst, ℕ, zero, suc, ◌+◌, ◌<◌, ◌==◌, Bool, true, false, not, ◌&&◌, List, [], ◌∷◌, length, map, Option, Some, None, slice_get, arith, true≢false, is_some}
-use Rattle.std.specs.Prelude.{if◌then◌else◌, slice_set}
+use Rattle.std.proofs.Common.{◌≡◌, refl, sym, ◌∙◌, ap, subst, ℕ, zero, suc, ◌==◌, true, false, ◌&&◌, List, [], ◌∷◌, length, map, Option, Some, None, slice_get}
+use Rattle.std.specs.Prelude.{slice_set}
 use Rattle.std.specs.List.{list_all}
 use Rattle.std.proofs.Math.ListN.{length-set}
 use Rattle.std.proofs.lemmas.Bool.{eqb-true, eq-eqb}
@@ -16,22 +16,21 @@ use Rattle.rl_defs.specs.declared.code.CallArg.{CallArg}
 use Rattle.rl_defs.specs.declared.code.CallArg.TheVariants as arg
 use Rattle.rl_defs.specs.declared.code.Instr.{Instr}
 use Rattle.rl_defs.specs.declared.code.Instr.TheVariants as instr
-use Rattle.rl_defs.specs.declared.code.DomainLine.{DomainLine}
 use Rattle.rl_defs.specs.declared.code.DomainLine.TheVariants as line
 use Rattle.rl_defs.specs.declared.tables.MethodRow.{MethodRow}
 use Rattle.rl_defs.specs.DomainValue.{Domain}
 use Rattle.rl_defs.specs.DomainParts.{ends}
 use Rattle.rl_defs.specs.Texts.{code_number}
 use Rattle.rl_defs.specs.CodeNames.{struct_number, slot_struct, function_at, results_of}
-use Rattle.rl_defs.specs.CodeKinds.{Kinds, kinds_at, kind_in, with_kind, leave, leave_all, passed, moved, left, after, at_label, Read, read_of_arg, read, reads, Owned, Passed, Target, hung_at, own_kind, method_called}
+use Rattle.rl_defs.specs.CodeKinds.{Kinds, kinds_at, kind_in, with_kind, leave, leave_all, passed, moved, left, after, at_label, read_of_arg, read, Owned, Passed, Target, hung_at, own_kind, method_called}
 use Rattle.rl_defs.specs.CodeRules.{meets, is_met, reads_are_met, operands_suit, is_inside, label_of, has_counts, has_method}
-use Rattle.rl_defs.specs.Instructions.{Registers, with_value, with_number, Stand, jumped}
-use Rattle.rl_defs.specs.CodeFits.{KeepsRules, Typing, fits_kind, Fits, FitsStand, FitsWaiting, FitsAnswer, are_values, all_given_up, put_values, answered, after_answer_at}
-use Rattle.rl_defs.specs.CodeLaws.{StandsAt, AnswersFit, WaitingAnswersFit, GivesUp}
-use Rattle.rl_defs.proofs.CodeRegisters.{and_left, and_right, Fine, set_fine, is_given, all_given, give_all_fine, all_none, keep_all, left_none, put_fine}
+use Rattle.rl_defs.specs.Instructions.{Registers, with_value, with_number}
+use Rattle.rl_defs.specs.CodeFits.{KeepsRules, Typing, fits_kind, Fits, FitsStand, FitsAnswer, are_values, all_given_up, put_values, answered, after_answer_at}
+use Rattle.rl_defs.specs.CodeLaws.{AnswersFit, WaitingAnswersFit, GivesUp}
+use Rattle.rl_defs.proofs.CodeRegisters.{and_left, and_right, Fine, set_fine, is_given, all_given, give_all_fine, keep_all, left_none, put_fine}
 use Rattle.rl_defs.proofs.CodeWidths.{length-kinds_at, length-leave_all}
 use Rattle.rl_defs.proofs.CodeSafe.{owned_leaves}
-use Rattle.rl_defs.proofs.CodeStands.{keeps_at, KeptLine, stands_next, stands_jumped}
+use Rattle.rl_defs.proofs.CodeStands.{keeps_at, stands_next, stands_jumped}
 
 passed_given : (k : RegKind) → meets Passed k ≡ true → is_given k ≡ true
 passed_given held.Num m = refl
@@ -114,7 +113,7 @@ went_left types kinds regs a wide fit m =
 back_fine : (types : Typing) (d : Domain) (kinds : Kinds) (c : Register) (method : List ℕ) (args : List CallArg) (results : List Register) (e : Register) (label : List ℕ) (values : List Value) (regs : Registers) → Given types kinds (instr.Call c method args results e label) regs → has_counts (method_called d.tables (kind_in kinds c) method) args results ≡ true → are_values types (results_of (method_called d.tables (kind_in kinds c) method)) values ≡ true → Fits types (after d kinds (instr.Call c method args results e label)) (put_values results values regs)
 back_fine types d kinds c method args results e label values regs given counts are =
     (put_fine types (results_of (method_called d.tables (kind_in kinds c) method)) results values (leave_all (passed args) kinds) regs
-      (counts_match (method_called d.tables (kind_in kinds c) method) args results counts) are (given_fine types kinds (instr.Call c method args results e label) regs given)).fits
+    (counts_match (method_called d.tables (kind_in kinds c) method) args results counts) are (given_fine types kinds (instr.Call c method args results e label) regs given)).fits
 
 failed_fine : (types : Typing) (kinds : Kinds) (c : Register) (method : List ℕ) (args : List CallArg) (results : List Register) (e : Register) (label : List ℕ) (failure : RpcCode) (regs : Registers) → Given types kinds (instr.Call c method args results e label) regs → Fits types (at_label kinds (instr.Call c method args results e label)) (with_number regs e (code_number failure))
 failed_fine types kinds c method args results e label failure regs given =
@@ -126,7 +125,7 @@ answered_fine types d kinds (instr.New a ty) (answer.Made o) regs fine met count
 answered_fine types d kinds (instr.Take a slot) (answer.Made o) regs fine met counts fits = (set_fine types kinds regs a (held.Own (slot_struct d slot)) (Some (value.Obj o)) fine (eq-eqb (types.struct_of o) (slot_struct d slot) fits)).fits
 answered_fine types d kinds (instr.Unhang a o place) (answer.Made v) regs fine met counts fits =
     (set_fine types kinds regs a (own_kind (hung_at d.tables (kind_in kinds o) place)) (Some (value.Obj v)) fine
-      (ap (λ s. fits_kind types (own_kind s) (Some (value.Obj v))) fits ∙ eq-eqb (types.struct_of v) (types.struct_of v) refl)).fits
+    (ap (λ s. fits_kind types (own_kind s) (Some (value.Obj v))) fits ∙ eq-eqb (types.struct_of v) (types.struct_of v) refl)).fits
 answered_fine types d kinds (instr.Drop a) answer.Went regs fine met counts fits = went_owned types kinds regs a fine (and_left (meets Owned (kind_in kinds a)) true met)
 answered_fine types d kinds (instr.Put slot a) answer.Went regs fine met counts fits = went_owned types kinds regs a fine (and_left (meets Owned (kind_in kinds a)) true met)
 answered_fine types d kinds (instr.Hang o place v) answer.Went regs fine met counts fits =
@@ -188,7 +187,7 @@ answers_fit d types i a s keeps at stand fits =
     let kept = keeps_at d s.at at.number (line.Code i) keeps at.here in
     stands_answered d types s.at at.number i a (answered i a s.regs) keeps stand.inside at.here fits
     (answered_fine types d kinds i a s.regs (record { wide = length-kinds_at d s.at; fits = stand.regs })
-      (and_left (reads_are_met kinds i) (operands_suit d s.at kinds i) kept.kinds) kept.method fits)
+    (and_left (reads_are_met kinds i) (operands_suit d s.at kinds i) kept.kinds) kept.method fits)
 
 pub waiting_answers_fit : WaitingAnswersFit
 waiting_answers_fit d types i a s keeps waiting fits =
@@ -196,7 +195,7 @@ waiting_answers_fit d types i a s keeps waiting fits =
     let kept = keeps_at d s.at waiting.number (line.Code i) keeps waiting.here in
     stands_answered d types s.at waiting.number i a (answered i a s.regs) keeps waiting.inside waiting.here fits
     (waiting_fine types d kinds i a s.regs (record { wide = length-kinds_at d s.at; fits = waiting.regs })
-      (and_left (reads_are_met kinds i) (operands_suit d s.at kinds i) kept.kinds) kept.method fits)
+    (and_left (reads_are_met kinds i) (operands_suit d s.at kinds i) kept.kinds) kept.method fits)
 
 pub gives_up : GivesUp
 gives_up d types i s keeps at stand =

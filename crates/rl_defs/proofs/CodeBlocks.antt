@@ -1,17 +1,16 @@
 -- The order of the lines of one domain, and the functions that they stand in.
-use Rattle.std.proofs.Common.{◌≡◌, refl, sym, ◌∙◌, ap, subst, ℕ, zero, suc, ◌+◌, ◌<◌, ◌≤◌, ◌⊎◌, inl, inr, Bool, true, false, ◌||◌, List, [], ◌∷◌, length, map, drop, Option, Some, None, slice_get, arith, ◌-◌, suc-add, zero-add, true≢false}
+use Rattle.std.proofs.Common.{◌≡◌, refl, sym, ◌∙◌, ap, ℕ, zero, suc, ◌+◌, ◌<◌, ◌≤◌, inl, inr, Bool, true, false, ◌||◌, List, [], ◌∷◌, length, drop, Option, Some, None, slice_get, arith, ◌-◌, suc-add, zero-add, true≢false}
 use Rattle.std.specs.Prelude.{fold, if◌then◌else◌}
 use Rattle.std.proofs.Math.Seq.{drop-length}
 use Rattle.std.proofs.lemmas.Bool.{cases_lt}
 use Rattle.std.proofs.lemmas.Option.{slice_get_within, slice_get_cases}
 use Rattle.rl_defs.specs.declared.bundle.Numbered.{Numbered}
-use Rattle.rl_defs.specs.declared.code.Instr.{Instr}
 use Rattle.rl_defs.specs.declared.code.HeadItem.{HeadItem}
 use Rattle.rl_defs.specs.declared.code.DomainLine.{DomainLine}
 use Rattle.rl_defs.specs.declared.code.DomainLine.TheVariants as line
-use Rattle.rl_defs.specs.Parts.{next_open, block_behind, forms_of}
+use Rattle.rl_defs.specs.Parts.{next_open, forms_of}
 use Rattle.rl_defs.specs.Domains.{Lines}
-use Rattle.rl_defs.specs.DomainParts.{Block, Outside, Declares, BehindFunction, InFunction, BehindEnd, unless, ends, next_block, domain_part, begins_domain}
+use Rattle.rl_defs.specs.DomainParts.{Block, Outside, Declares, BehindFunction, InFunction, BehindEnd, unless, ends, next_block, domain_part}
 use Rattle.rl_defs.specs.CodeNames.{Function, function_at, function_behind, function_behind_form}
 use Rattle.rl_defs.specs.CodeRules.{is_inside}
 use Rattle.rl_defs.specs.CodeFits.{IsOneDomain}
@@ -51,7 +50,7 @@ behind_at lines (suc k) n e =
     let line_n = some_line lines n (omega arith) in
     ap (λ xs. fold (next_open domain_part) (block_at lines n) (forms_of xs)) (drop_suc lines n line_n.0 line_n.1)
     ∙ (ap (λ b. fold (next_open domain_part) b (forms_of (drop (suc n) lines))) (sym (ap (opened (block_at lines n)) line_n.1))
-        ∙ behind_at lines k (suc n) (omega arith))
+    ∙ behind_at lines k (suc n) (omega arith))
 
 closes : (lines : Lines) → IsOneDomain lines → block_at lines (length lines) ≡ Some Outside
 closes [] one = absurd one
@@ -72,11 +71,11 @@ is_some_block (Some b) barred = (b, refl)
 some_block : (lines : Lines) (n : ℕ) → IsOneDomain lines → n ≤ length lines → (b : Block) × (block_at lines n ≡ Some b)
 some_block lines n one le =
     is_some_block (block_at lines n) (λ e.
-      let at : length lines - n + n ≡ length lines = omega arith in
-      let none : block_at lines (length lines - n + n) ≡ None = stays_none lines (length lines - n) n e in
-      let ends_none : block_at lines (length lines) ≡ None = sym (ap (block_at lines) at) ∙ none in
-      let outside = closes lines one in
-      cc)
+    let at : length lines - n + n ≡ length lines = omega arith in
+    let none : block_at lines (length lines - n + n) ≡ None = stays_none lines (length lines - n) n e in
+    let ends_none : block_at lines (length lines) ≡ None = sym (ap (block_at lines) at) ∙ none in
+    let outside = closes lines one in
+    cc)
 
 along : (x b : Block) (i : Bool) → i ≡ is_body x → Some x ≡ Some b → i ≡ is_body b
 along x b i e h = let same : x ≡ b = cc in e ∙ ap is_body same
@@ -123,10 +122,10 @@ inside_below lines n one le inside =
     elim (cases_lt n (length lines)) [
       | inl lt ↦ lt
       | inr ge ↦
-        let at : n ≡ length lines = omega arith in
-        let body : is_open_body (block_at lines n) ≡ true = sym (inside_is lines n one le) ∙ inside in
-        let shut : is_open_body (block_at lines n) ≡ false = ap (λ m. is_open_body (block_at lines m)) at ∙ ap is_open_body (closes lines one) in
-        absurd (true≢false (sym body ∙ shut))
+          let at : n ≡ length lines = omega arith in
+          let body : is_open_body (block_at lines n) ≡ true = sym (inside_is lines n one le) ∙ inside in
+          let shut : is_open_body (block_at lines n) ≡ false = ap (λ m. is_open_body (block_at lines m)) at ∙ ap is_open_body (closes lines one) in
+          absurd (true≢false (sym body ∙ shut))
     ]
 
 -- the lines that stand in a function

@@ -1,9 +1,8 @@
 -- A call of domain code that keeps the rules begins with a frame that fits.
-use Rattle.std.proofs.Common.{◌≡◌, refl, sym, ◌∙◌, ap, subst, ℕ, zero, suc, ◌+◌, ◌-◌, ◌<◌, ◌≤◌, ◌==◌, Bool, true, false, not, cond, ◌&&◌, ◌||◌, List, [], ◌∷◌, ◌++◌, length, map, Option, Some, None, slice_get, arith, add-one, one-add, suc-add, zero-add, append_assoc, length-append, true≢false, is_some, inl, inr}
-use Rattle.std.specs.Prelude.{if◌then◌else◌, slice_set, replicate, nat_eq}
+use Rattle.std.proofs.Common.{◌≡◌, refl, sym, ◌∙◌, ap, subst, ℕ, zero, suc, ◌+◌, ◌-◌, ◌≤◌, ◌==◌, Bool, true, false, not, cond, ◌||◌, List, [], ◌∷◌, ◌++◌, length, map, Option, Some, None, slice_get, arith, one-add, suc-add, zero-add, append_assoc, length-append, true≢false, is_some}
+use Rattle.std.specs.Prelude.{if◌then◌else◌, slice_set, replicate}
 use Rattle.std.specs.List.{slice_index_or, list_all, position_or_len}
 use Rattle.std.specs.Option.{option_map}
-use Rattle.std.specs.Cmp.Lexicographic.{pointwise}
 use Rattle.std.proofs.lemmas.List.{length-replicate, length-map}
 use Rattle.std.proofs.lemmas.Bool.{eqb-true}
 use Rattle.std.proofs.lemmas.Option.{slice_get_within}
@@ -19,15 +18,14 @@ use Rattle.rl_defs.specs.declared.tables.MethodRow.{MethodRow}
 use Rattle.rl_defs.specs.Words.{same_bytes}
 use Rattle.rl_defs.specs.Interfaces.{place_of}
 use Rattle.rl_defs.specs.DomainValue.{Domain}
-use Rattle.rl_defs.specs.Domains.{Lines, is_native, begins_function, body_of_function}
+use Rattle.rl_defs.specs.Domains.{Lines, is_native, begins_function}
 use Rattle.rl_defs.specs.DomainParts.{begins_domain}
-use Rattle.rl_defs.specs.CodeNames.{function_at, function_behind, function_of_form, functions, methods_of, method_number, method_named, row_at, params_of, domain_trait}
-use Rattle.rl_defs.specs.CodeKinds.{Kinds, no_kinds, kinds_at, as_register, put_from, entry_kinds}
+use Rattle.rl_defs.specs.CodeNames.{function_at, function_of_form, functions, methods_of, method_number, method_named, row_at, params_of, domain_trait}
+use Rattle.rl_defs.specs.CodeKinds.{Kinds, kinds_at, as_register, put_from, entry_kinds}
 use Rattle.rl_defs.specs.CodeRules.{has_function, has_functions, is_inside}
-use Rattle.rl_defs.specs.Instructions.{Registers}
 use Rattle.rl_defs.specs.Crossing.{value_of, entry_registers}
 use Rattle.rl_defs.specs.CodeFits.{IsOneDomain, KeepsRules, Typing, fits_kind, Fits, FitsStand, are_values}
-use Rattle.rl_defs.specs.LineRows.{entry_of, entry_at}
+use Rattle.rl_defs.specs.LineRows.{entry_of}
 use Rattle.rl_defs.specs.CodeLaws.{FitsArguments, EntriesFit}
 use Rattle.rl_defs.proofs.CodeRegisters.{and_left, and_right}
 use Rattle.rl_defs.proofs.CodeBlocks.{inside_below}
@@ -46,8 +44,8 @@ put_behind front (k ∷ ks) j =
     let count : length front + 1 ≡ length (front ++ one) = omega (arith, length-append front one) in
     ap (λ n. put_from (length front + 1) ks (slice_set (front ++ replicate n held.Empty) (length front) (as_register k))) (suc-add (length ks) j)
     ∙ (ap (put_from (length front + 1) ks) (set_seam front held.Empty (as_register k) rest ∙ sym (append_assoc front one rest))
-        ∙ (ap (λ n. put_from n ks ((front ++ one) ++ rest)) count
-            ∙ (put_behind (front ++ one) ks j ∙ append_assoc front one (map as_register ks ++ replicate j held.Empty))))
+    ∙ (ap (λ n. put_from n ks ((front ++ one) ++ rest)) count
+    ∙ (put_behind (front ++ one) ks j ∙ append_assoc front one (map as_register ks ++ replicate j held.Empty))))
 
 -- the kinds at a function's first line are the parameters', and no others
 entry_is : (ks : List Kind) → length ks ≤ 32 → entry_kinds ks ≡ map as_register ks ++ replicate (32 - length ks) held.Empty
@@ -80,9 +78,9 @@ entered_fits types ks args le are =
     record {
       all = omega (arith, length-append (map (λ a. Some (value_of a)) args) (replicate (32 - length args) None), length-map args (λ a. Some (value_of a)), length-replicate {A = Option Value} (32 - length args) None);
       each = λ r.
-        ap (λ kinds. fits_kind types (slice_index_or kinds r held.Empty) (slice_index_or (entry_registers args) r None)) (entry_is ks le)
-        ∙ (ap (λ n. fits_kind types (slice_index_or (map as_register ks ++ replicate (32 - n) held.Empty) r held.Empty) (slice_index_or (entry_registers args) r None)) count
-            ∙ given_fits types ks args (32 - length args) r are);
+          ap (λ kinds. fits_kind types (slice_index_or kinds r held.Empty) (slice_index_or (entry_registers args) r None)) (entry_is ks le)
+          ∙ (ap (λ n. fits_kind types (slice_index_or (map as_register ks ++ replicate (32 - n) held.Empty) r held.Empty) (slice_index_or (entry_registers args) r None)) count
+          ∙ given_fits types ks args (32 - length args) r are);
     }
 
 -- the head of a function at a place
@@ -161,9 +159,9 @@ begins_fitting d types p m args keeps given f =
     let small = small_method d.tables (domain_trait d) m given.method keeps.small given.row in
     let params = small.params in
     let is : kinds_at d (p + 1) ≡ entry_kinds given.method.params =
-        kinds_next d p _ f.here
-        ∙ (ap (λ n. entry_kinds (params_of (method_named d.tables (domain_trait d) n))) name
-            ∙ ap entry_kinds (named_row d given.method.name m given.method given.named given.row)) in
+    kinds_next d p _ f.here
+    ∙ (ap (λ n. entry_kinds (params_of (method_named d.tables (domain_trait d) n))) name
+    ∙ ap entry_kinds (named_row d given.method.name m given.method given.named given.row)) in
     record {
       inside = inside;
       reached = reached_next d p _ f.here;

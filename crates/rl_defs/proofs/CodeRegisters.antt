@@ -1,9 +1,9 @@
 -- Registers that hold what their kinds say.
-use Rattle.std.proofs.Common.{◌≡◌, ◌≢◌, refl, sym, ◌∙◌, ap, subst, ℕ, zero, suc, ◌+◌, ◌<◌, ◌==◌, Bool, true, false, not, ◌&&◌, ◌||◌, List, [], ◌∷◌, ◌++◌, length, map, Option, Some, None, arith, true≢false, unwrap_or, add-zero, zero-add}
+use Rattle.std.proofs.Common.{◌≡◌, refl, sym, ◌∙◌, ap, ℕ, zero, suc, ◌+◌, ◌<◌, ◌==◌, Bool, true, false, ◌&&◌, ◌||◌, List, [], ◌∷◌, length, map, Option, Some, None, arith, add-zero, zero-add}
 use Rattle.std.specs.Prelude.{slice_set, replicate, if◌then◌else◌}
 use Rattle.std.specs.List.{slice_index_or, list_all, list_any}
 use Rattle.std.proofs.Math.ListN.{length-set}
-use Rattle.std.proofs.lemmas.List.{length-replicate, get_or-replicate}
+use Rattle.std.proofs.lemmas.List.{length-replicate}
 use Rattle.std.proofs.lemmas.Bool.{eqb-true, ne_eqb}
 use lib.Dec.{eqb-suc-suc}
 use Rattle.rl_defs.specs.declared.values.Value.{Value}
@@ -14,9 +14,8 @@ use Rattle.rl_defs.specs.declared.code.RegKind.TheVariants as held
 use Rattle.rl_defs.specs.declared.code.HeadItem.{HeadItem}
 use Rattle.rl_defs.specs.declared.code.Instr.{Instr}
 use Rattle.rl_defs.specs.declared.tables.Kind.{Kind}
-use Rattle.rl_defs.specs.declared.tables.Kind.TheVariants as kind
 use Rattle.rl_defs.specs.DomainValue.{Domain}
-use Rattle.rl_defs.specs.CodeKinds.{Kinds, no_kinds, kind_in, with_kind, is_own, Need, Number, Copied, Owned, Object, Target, Passed, Read, reads, leave, leave_all, Write, write, put_all, paired, as_register, listed, head_kinds}
+use Rattle.rl_defs.specs.CodeKinds.{Kinds, no_kinds, kind_in, with_kind, is_own, Need, Number, Copied, Owned, Object, Target, Passed, Read, reads, leave, leave_all, Write, put_all, paired, as_register, listed, head_kinds}
 use Rattle.rl_defs.specs.CodeRules.{meets, is_met, reads_are_met, same_kind, owns_nothing, enters, without}
 use Rattle.rl_defs.specs.Instructions.{Registers, value_in, with_value, has, holds, reads_are_held, is_listed, keep_from, kept}
 use Rattle.rl_defs.specs.CodeFits.{Typing, fits_kind, Fits, are_values, give_up, given_up, all_given_up, put_values}
@@ -232,7 +231,7 @@ put_same (w ∷ ws) kinds base r wide same =
     let here : w.kind ≡ kind_in kinds w.register = same_is w.kind (kind_in kinds w.register) (and_left (same_kind w.kind (kind_in kinds w.register)) (all_same kinds ws) same) in
     put_same ws kinds (with_kind base w.register w.kind) r (length-with_kind base w.register w.kind ∙ wide) (and_right (same_kind w.kind (kind_in kinds w.register)) (all_same kinds ws) same)
     ∙ (ap (λ k. if is_put r ws then slice_index_or kinds r held.Empty else k) (put_at base w.register.number r w.kind (omega arith))
-        ∙ chosen (w.register.number == r) (is_put r ws) w.kind (slice_index_or kinds r held.Empty) (slice_index_or base r held.Empty) (λ e. here ∙ ap (λ n. slice_index_or kinds n held.Empty) (eqb-true w.register.number r e)))
+    ∙ chosen (w.register.number == r) (is_put r ws) w.kind (slice_index_or kinds r held.Empty) (slice_index_or base r held.Empty) (λ e. here ∙ ap (λ n. slice_index_or kinds n held.Empty) (eqb-true w.register.number r e)))
 
 keeps_none : (b : Bool) → let none : Option Value = None in none ≡ (if b then none else none)
 keeps_none true = refl
@@ -271,13 +270,13 @@ head_fine types d items kinds regs enter fit =
     record {
       all = length-keep regs 0 registers ∙ fit.all;
       each = λ r.
-        let k : slice_index_or (head_kinds d.tables items) r held.Empty ≡ (if is_listed r registers then slice_index_or kinds r held.Empty else held.Empty) =
-            put_same (listed d.tables items) kinds no_kinds r length-no_kinds same
-            ∙ (ap (λ e. if is_put r (listed d.tables items) then slice_index_or kinds r held.Empty else e) (empty_at 32 r)
-                ∙ ap (λ (b : Bool). if b then slice_index_or kinds r held.Empty else held.Empty) (listed_put d items r)) in
-        let v : slice_index_or (kept items regs) r None ≡ (if is_listed r registers then slice_index_or regs r None else None) =
-            keep_at regs 0 r registers ∙ ap (λ m. if is_listed m registers then slice_index_or regs r None else None) (zero-add r) in
-        ap (λ x. fits_kind types x (slice_index_or (kept items regs) r None)) k
-        ∙ (ap (λ x. fits_kind types (if is_listed r registers then slice_index_or kinds r held.Empty else held.Empty) x) v
-            ∙ either_fits types (is_listed r registers) (slice_index_or kinds r held.Empty) (slice_index_or regs r None) (fit.each r));
+          let k : slice_index_or (head_kinds d.tables items) r held.Empty ≡ (if is_listed r registers then slice_index_or kinds r held.Empty else held.Empty) =
+          put_same (listed d.tables items) kinds no_kinds r length-no_kinds same
+          ∙ (ap (λ e. if is_put r (listed d.tables items) then slice_index_or kinds r held.Empty else e) (empty_at 32 r)
+          ∙ ap (λ (b : Bool). if b then slice_index_or kinds r held.Empty else held.Empty) (listed_put d items r)) in
+          let v : slice_index_or (kept items regs) r None ≡ (if is_listed r registers then slice_index_or regs r None else None) =
+          keep_at regs 0 r registers ∙ ap (λ m. if is_listed m registers then slice_index_or regs r None else None) (zero-add r) in
+          ap (λ x. fits_kind types x (slice_index_or (kept items regs) r None)) k
+          ∙ (ap (λ x. fits_kind types (if is_listed r registers then slice_index_or kinds r held.Empty else held.Empty) x) v
+          ∙ either_fits types (is_listed r registers) (slice_index_or kinds r held.Empty) (slice_index_or regs r None) (fit.each r));
     }

@@ -1,12 +1,10 @@
 -- An instruction of domain code that keeps the rules leaves registers that fit where it goes on.
-use Rattle.std.proofs.Common.{◌≡◌, refl, sym, ◌∙◌, ap, subst, ℕ, zero, suc, ◌+◌, ◌<◌, ◌==◌, Bool, true, false, not, ◌&&◌, List, [], ◌∷◌, length, map, Option, Some, None, slice_get, arith, true≢false, unwrap_or, is_some, inl, inr, nat_lt}
-use Rattle.std.specs.Prelude.{if◌then◌else◌, is_none, nat_eq}
+use Rattle.std.proofs.Common.{◌≡◌, refl, sym, ◌∙◌, ap, subst, ℕ, zero, suc, ◌+◌, ◌<◌, ◌==◌, Bool, true, false, List, [], ◌∷◌, length, map, Option, Some, None, slice_get, arith, unwrap_or, is_some, inl, inr}
+use Rattle.std.specs.Prelude.{if◌then◌else◌, nat_eq}
 use Rattle.std.specs.Cmp.Lexicographic.{pointwise}
 use Rattle.std.proofs.lemmas.List.{length-map}
-use Rattle.std.specs.List.{list_all}
 use Rattle.std.specs.Option.{option_map}
-use Rattle.std.proofs.lemmas.Bool.{eqb-true, eq-eqb}
-use Rattle.rl_defs.specs.declared.values.Value.{Value}
+use Rattle.std.proofs.lemmas.Bool.{eq-eqb}
 use Rattle.rl_defs.specs.declared.values.Value.TheVariants as value
 use Rattle.rl_defs.specs.declared.values.Cause.{Cause}
 use Rattle.rl_defs.specs.declared.values.Cause.TheVariants as cause
@@ -17,7 +15,6 @@ use Rattle.rl_defs.specs.declared.code.RegKind.{RegKind}
 use Rattle.rl_defs.specs.declared.code.RegKind.TheVariants as held
 use Rattle.rl_defs.specs.declared.code.Instr.{Instr}
 use Rattle.rl_defs.specs.declared.code.Instr.TheVariants as instr
-use Rattle.rl_defs.specs.declared.code.DomainLine.{DomainLine}
 use Rattle.rl_defs.specs.declared.code.DomainLine.TheVariants as line
 use Rattle.rl_defs.specs.declared.tables.Kind.{Kind}
 use Rattle.rl_defs.specs.Sight.{Sight}
@@ -25,13 +22,13 @@ use Rattle.rl_defs.specs.DomainValue.{Domain}
 use Rattle.rl_defs.specs.DomainParts.{ends}
 use Rattle.rl_defs.specs.Interfaces.{place_of}
 use Rattle.rl_defs.specs.CodeNames.{Declared, imports, place_in, type_at, trait_number, import_trait}
-use Rattle.rl_defs.specs.CodeKinds.{Kinds, kinds_at, kind_in, with_kind, is_own, Owned, leave, after, at_label, reads}
-use Rattle.rl_defs.specs.CodeRules.{meets, is_met, reads_are_met, operands_suit, label_of, declares, object_struct}
-use Rattle.rl_defs.specs.Instructions.{Registers, value_in, with_value, with_number, number_in, object_in, cell_kind, Outcome, Works, Jumps, Would, Stuck, traps, number_or_trap, unless_trap, setting, calculate, meaning, guarded, form_meaning, line_meaning, work, Stand, behind_heads, jumped, Settled, Before, go_on, settle, import_number, reads_are_held}
-use Rattle.rl_defs.specs.CodeFits.{KeepsRules, Typing, fits_kind, Fits, FitsStand, FitsSight}
-use Rattle.rl_defs.specs.CodeLaws.{StandsAt, ComesTo, NeverStuck, AlwaysSettles}
-use Rattle.rl_defs.proofs.CodeRegisters.{and_left, and_right, Fine, set_fine, reads_held}
-use Rattle.rl_defs.proofs.CodeStands.{keeps_at, KeptLine, FitsCode, comes_to_code, stands_next, stands_jumped}
+use Rattle.rl_defs.specs.CodeKinds.{Kinds, kinds_at, kind_in, with_kind, is_own, Owned, leave, after, at_label}
+use Rattle.rl_defs.specs.CodeRules.{meets, reads_are_met, operands_suit, label_of, declares, object_struct}
+use Rattle.rl_defs.specs.Instructions.{Registers, value_in, with_value, with_number, number_in, object_in, cell_kind, Outcome, Works, Jumps, Would, Stuck, number_or_trap, unless_trap, setting, calculate, meaning, guarded, line_meaning, work, Stand, behind_heads, jumped, go_on, settle, reads_are_held}
+use Rattle.rl_defs.specs.CodeFits.{KeepsRules, Typing, Fits, FitsStand, FitsSight}
+use Rattle.rl_defs.specs.CodeLaws.{ComesTo, NeverStuck, AlwaysSettles}
+use Rattle.rl_defs.proofs.CodeRegisters.{and_left, Fine, set_fine, reads_held}
+use Rattle.rl_defs.proofs.CodeStands.{keeps_at, FitsCode, comes_to_code, stands_next, stands_jumped}
 use Rattle.rl_defs.proofs.CodeWidths.{length-kinds_at}
 
 -- where an outcome leads, the registers fit
@@ -73,7 +70,7 @@ move_safe : (types : Typing) (kinds : Kinds) (regs : Registers) (a b : Register)
 move_safe types kinds regs a b fine m =
     subst (λ k. Fits types (with_kind k a (kind_in kinds b)) (with_value (with_value regs b None) a (value_in regs b))) (sym (owned_leaves kinds b m))
     (set_fine types (with_kind kinds b held.Empty) (with_value regs b None) a (kind_in kinds b) (value_in regs b)
-      (set_fine types kinds regs b held.Empty None fine refl) (fine.fits.each b.number)).fits
+    (set_fine types kinds regs b held.Empty None fine refl) (fine.fits.each b.number)).fits
 
 below_head : (same : Bool) (rest : Option ℕ) (n k : ℕ) → ((j : ℕ) → rest ≡ Some j → j < n) → (if same then Some 0 else option_map (λ k. suc k) rest) ≡ Some k → k < suc n
 below_head true rest n k bound h = let e : 0 ≡ k = cc in omega arith
@@ -111,7 +108,7 @@ safe types d n kinds sight live regs (instr.Cap a import) fine sees met declared
 safe types d n kinds sight live regs (instr.DevSize a) fine sees met declared = ((set_fine types kinds regs a held.Num (Some (value.Num _)) fine refl).fits, refl)
 safe types d n kinds sight live regs (instr.New a ty) fine sees met declared = would_safe types d kinds (instr.New a ty) _ cause.HeapFull _
 safe types d n kinds sight live regs (instr.Drop a) fine sees met declared = tt
-safe types d n kinds sight live regs (instr.Set o i v) fine sees met declared = 
+safe types d n kinds sight live regs (instr.Set o i v) fine sees met declared =
     set_safe types d kinds (instr.Set o i v) (sight.cell (object_in regs o) (number_in regs i)) (cell_kind d (object_struct (kind_in kinds o)) (number_in regs i)) (object_in regs o) (number_in regs i) (number_in regs v)
 safe types d n kinds sight live regs (instr.Wput i v) fine sees met declared = would_safe types d kinds (instr.Wput i v) _ cause.Bounds _
 safe types d n kinds sight live regs (instr.Take a slot) fine sees met declared = would_safe types d kinds (instr.Take a slot) _ cause.Empty _
@@ -140,7 +137,7 @@ safe_at d types sight live s number i keeps sees stand here =
     let kinds = kinds_at d s.at in
     subst (λ o. Safe types d kinds i o) (sym (work_is d sight live s number i here (finds d types s number i keeps stand here)))
     (safe types d s.at kinds sight live s.regs i (record { wide = length-kinds_at d s.at; fits = stand.regs }) sees
-      (and_left (reads_are_met kinds i) (operands_suit d s.at kinds i) kept.kinds) kept.declared)
+    (and_left (reads_are_met kinds i) (operands_suit d s.at kinds i) kept.kinds) kept.declared)
 
 onward : (d : Domain) (types : Typing) (sight : Sight) (live f : ℕ) (s : Stand) (o : Outcome) → KeepsRules d → (code : FitsCode types d (behind_heads d s)) → work d sight live (behind_heads d s) ≡ o → Safe types d (kinds_at d (behind_heads d s).at) code.instr o → ((next : Stand) → FitsStand types d next → ComesTo types d sight live f next) → ComesTo types d sight live (suc f) s
 onward d types sight live f s (Works regs) keeps code is safely further =
@@ -168,15 +165,15 @@ onward d types sight live f s (Jumps regs) keeps code is safely further =
       acts = next.acts;
     }
 onward d types sight live f s (Would act) keeps code is safely further = record {
-    act = act;
-    rest = suc f;
-    stand = behind_heads d s;
-    settles = ap (λ q. go_on d q (settle d sight live f) (suc f) (behind_heads d s)) is;
-    fits = code.stand;
-    instr = code.instr;
-    at = code.at;
-    acts = inr is;
-  }
+  act = act;
+  rest = suc f;
+  stand = behind_heads d s;
+  settles = ap (λ q. go_on d q (settle d sight live f) (suc f) (behind_heads d s)) is;
+  fits = code.stand;
+  instr = code.instr;
+  at = code.at;
+  acts = inr is;
+}
 onward d types sight live f s Stuck keeps code is safely further = absurd safely
 
 pub settles : AlwaysSettles

@@ -1,5 +1,5 @@
 -- Where a frame of domain code that keeps the rules stands, and where it goes from there.
-use Rattle.std.proofs.Common.{◌≡◌, refl, sym, ◌∙◌, ap, subst, ℕ, zero, suc, ◌+◌, ◌-◌, ◌<◌, ◌≤◌, ◌==◌, Bool, true, false, not, ◌&&◌, ◌||◌, List, [], ◌∷◌, length, drop, Option, Some, None, slice_get, arith, add-one, suc-add, zero-add, true≢false, unwrap_or, is_some, inl, inr}
+use Rattle.std.proofs.Common.{◌≡◌, refl, sym, ◌∙◌, ap, subst, ℕ, zero, suc, ◌+◌, ◌-◌, ◌<◌, ◌==◌, Bool, true, false, not, ◌&&◌, ◌||◌, List, [], ◌∷◌, length, drop, Option, Some, None, slice_get, arith, add-one, suc-add, zero-add, true≢false, unwrap_or, is_some}
 use Rattle.std.specs.Prelude.{if◌then◌else◌}
 use Rattle.std.specs.List.{list_any}
 use Rattle.std.proofs.lemmas.Bool.{eq-eqb}
@@ -10,7 +10,6 @@ use Rattle.rl_defs.specs.declared.code.HeadItem.{HeadItem}
 use Rattle.rl_defs.specs.declared.code.DomainLine.{DomainLine}
 use Rattle.rl_defs.specs.declared.code.DomainLine.TheVariants as line
 use Rattle.rl_defs.specs.Words.{same_bytes}
-use Rattle.rl_defs.specs.Refusals.{Nowhere}
 use Rattle.rl_defs.specs.Domains.{Lines}
 use Rattle.rl_defs.specs.DomainParts.{ends}
 use Rattle.rl_defs.specs.DomainValue.{Domain}
@@ -20,9 +19,9 @@ use Rattle.rl_defs.specs.CodeRules.{Sentence, sentences, is_inside, is_reached, 
 use Rattle.rl_defs.specs.Instructions.{Registers, Stand, kept, through, behind_heads, entered, entered_line, jumped, label_of_line}
 use Rattle.rl_defs.specs.CodeFits.{KeepsRules, Typing, Fits, FitsStand}
 use Rattle.rl_defs.specs.CodeLaws.{StandsAt}
-use Rattle.rl_defs.proofs.Places.{drop_suc, drop_at}
-use Rattle.rl_defs.proofs.CodeRegisters.{and_left, and_right, head_fine}
-use Rattle.rl_defs.proofs.CodeBlocks.{some_line, inside_below, line_inside, head_inside, stands_inside}
+use Rattle.rl_defs.proofs.Places.{drop_at}
+use Rattle.rl_defs.proofs.CodeRegisters.{head_fine}
+use Rattle.rl_defs.proofs.CodeBlocks.{some_line, inside_below, line_inside, head_inside}
 
 -- every sentence of a list is kept
 abbrev AllKept : List Sentence → Type 0
@@ -87,11 +86,11 @@ reached_next d n l here = rw add-one (ap goes_on_from here)
 -- a frame at the next line of a function, with registers of the kinds there
 stands_on : (d : Domain) (types : Typing) (n : ℕ) (regs : Registers) (kinds : Kinds) → KeepsRules d → n < length d.lines → is_inside (function_at d.lines (n + 1)) ≡ true → is_reached d (n + 1) ≡ true → kinds_at d (n + 1) ≡ kinds → Fits types kinds regs → FitsStand types d (record { at = n + 1; regs = regs })
 stands_on d types n regs kinds keeps lt inside reached is fit = record {
-    inside = inside;
-    reached = reached;
-    within = inside_below d.lines (n + 1) keeps.ordered (omega arith) inside;
-    regs = subst (λ k. Fits types k regs) (sym is) fit;
-  }
+  inside = inside;
+  reached = reached;
+  within = inside_below d.lines (n + 1) keeps.ordered (omega arith) inside;
+  regs = subst (λ k. Fits types k regs) (sym is) fit;
+}
 
 -- it stands at the next line behind an instruction from which control goes on
 pub stands_next : (d : Domain) (types : Typing) (n number : ℕ) (i : Instr) (regs : Registers) → KeepsRules d → is_inside (function_at d.lines n) ≡ true → slice_get d.lines n ≡ Some (record { line = number; form = line.Code i }) → ends i ≡ false → Fits types (after d (kinds_at d n) i) regs → FitsStand types d (record { at = n + 1; regs = regs })
@@ -223,7 +222,7 @@ pub stands_label : (d : Domain) (types : Typing) (n number p : ℕ) (i : Instr) 
 stands_label d types n number p i regs keeps here at fit =
     let head = place_head d n (label_of i) p at in
     let enter : enters d head.items (at_label (kinds_at d n) i) ≡ true =
-        sym (ap (λ o. enters_line d o (at_label (kinds_at d n) i)) head.here) ∙ (sym (ap (λ o. enters_at d o (at_label (kinds_at d n) i)) at) ∙ (keeps_at d n number (line.Code i) keeps here).enters) in
+    sym (ap (λ o. enters_line d o (at_label (kinds_at d n) i)) head.here) ∙ (sym (ap (λ o. enters_at d o (at_label (kinds_at d n) i)) at) ∙ (keeps_at d n number (line.Code i) keeps here).enters) in
     subst (λ o. FitsStand types d (entered_line o p regs)) (sym head.here)
     (stands_behind d types p head.number head.label head.items (at_label (kinds_at d n) i) regs keeps head.here enter fit)
 

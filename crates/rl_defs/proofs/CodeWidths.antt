@@ -5,13 +5,12 @@ use Rattle.std.proofs.Math.ListN.{length-set}
 use Rattle.rl_defs.specs.declared.bundle.Numbered.{Numbered}
 use Rattle.rl_defs.specs.declared.code.Register.{Register}
 use Rattle.rl_defs.specs.declared.code.RegKind.TheVariants as held
-use Rattle.rl_defs.specs.declared.code.Instr.{Instr}
 use Rattle.rl_defs.specs.declared.code.DomainLine.{DomainLine}
 use Rattle.rl_defs.specs.declared.code.DomainLine.TheVariants as line
 use Rattle.rl_defs.specs.declared.tables.Kind.{Kind}
 use Rattle.rl_defs.specs.DomainValue.{Domain}
 use Rattle.rl_defs.specs.CodeNames.{params_of, method_named, domain_trait}
-use Rattle.rl_defs.specs.CodeKinds.{Kinds, no_kinds, kind_in, with_kind, is_own, leave, leave_all, moved, left, writes, put_all, after, listed, put_from, as_register, after_line, after_some, kinds_at}
+use Rattle.rl_defs.specs.CodeKinds.{Kinds, no_kinds, kind_in, with_kind, is_own, leave, leave_all, moved, left, writes, listed, put_from, as_register, after_line, after_some, kinds_at}
 use Rattle.rl_defs.proofs.CodeRegisters.{length-put_all, length-no_kinds}
 
 length-leave : (kinds : Kinds) (r : Register) (own : Bool) → length (if own then with_kind kinds r held.Empty else kinds) ≡ length kinds

@@ -1,11 +1,9 @@
 -- What it is that a frame fits its domain, and an answer its action.
-use Rattle.std.specs.Prelude.{◌≡◌, ℕ, ◌+◌, ◌==◌, ◌<◌, ◌≤◌, ◌^◌, ◌&&◌, not, Bool, true, false, List, [], ◌∷◌, length, Option, Some, None, slice_get, is_some, All}
+use Rattle.std.specs.Prelude.{◌≡◌, ℕ, ◌+◌, ◌==◌, ◌<◌, ◌≤◌, ◌^◌, ◌&&◌, Bool, true, false, List, [], ◌∷◌, length, Option, Some, None, slice_get, is_some, All}
 use Rattle.std.specs.List.{slice_index_or}
 use Rattle.rl_defs.specs.declared.bundle.Numbered.{Numbered}
 use Rattle.rl_defs.specs.declared.values.Value.{Value}
 use Rattle.rl_defs.specs.declared.values.Value.TheVariants as value
-use Rattle.rl_defs.specs.declared.values.Arg.{Arg}
-use Rattle.rl_defs.specs.declared.values.Arg.TheVariants as given
 use Rattle.rl_defs.specs.declared.code.Register.{Register}
 use Rattle.rl_defs.specs.declared.code.RegKind.{RegKind}
 use Rattle.rl_defs.specs.declared.code.RegKind.TheVariants as held
@@ -29,7 +27,7 @@ use Rattle.rl_defs.specs.DomainParts.{domain_part, begins_domain, rest_of_domain
 use Rattle.rl_defs.specs.DomainValue.{Domain}
 use Rattle.rl_defs.specs.Domains.{Lines}
 use Rattle.rl_defs.specs.Texts.{code_number}
-use Rattle.rl_defs.specs.CodeNames.{struct_number, cells_of, slots, imports, type_at, slot_struct, import_trait, function_at, trait_number, results_of}
+use Rattle.rl_defs.specs.CodeNames.{struct_number, cells_of, slots, imports, type_at, slot_struct, function_at, trait_number, results_of}
 use Rattle.rl_defs.specs.CodeKinds.{Kinds, kinds_at, kind_in, left, passed, method_called, hung_at, as_register}
 use Rattle.rl_defs.specs.CodeRules.{FailsCode, is_inside, is_reached}
 use Rattle.rl_defs.specs.Sight.{Sight}

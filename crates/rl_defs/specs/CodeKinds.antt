@@ -1,6 +1,6 @@
 -- The kinds of the registers before a line of domain code.
-use Rattle.std.specs.Prelude.{ℕ, zero, suc, ◌+◌, ◌==◌, ◌&&◌, ◌||◌, not, Bool, true, false, if◌then◌else◌, List, [], ◌∷◌, ◌++◌, map, replicate, Option, Some, None, slice_get, slice_set}
-use Rattle.std.specs.List.{slice_index_or, list_all}
+use Rattle.std.specs.Prelude.{ℕ, zero, suc, ◌+◌, Bool, true, false, if◌then◌else◌, List, [], ◌∷◌, map, replicate, Option, Some, None, slice_get, slice_set}
+use Rattle.std.specs.List.{slice_index_or}
 use Rattle.rl_defs.specs.declared.bundle.Numbered.{Numbered}
 use Rattle.rl_defs.specs.declared.code.Register.{Register}
 use Rattle.rl_defs.specs.declared.code.RegKind.{RegKind}
@@ -19,7 +19,7 @@ use Rattle.rl_defs.specs.declared.tables.Kind.TheVariants as value
 use Rattle.rl_defs.specs.declared.tables.MethodRow.{MethodRow}
 use Rattle.rl_defs.specs.declared.tables.Tables.{Tables}
 use Rattle.rl_defs.specs.DomainValue.{Domain}
-use Rattle.rl_defs.specs.CodeNames.{struct_number, trait_number, cells_of, method_named, method_of_function, params_of, results_of, slot_struct, import_trait, Function, domain_trait}
+use Rattle.rl_defs.specs.CodeNames.{struct_number, trait_number, cells_of, method_named, params_of, results_of, slot_struct, import_trait, domain_trait}
 
 -- what each of the registers `r0` to `r31` is known to hold
 abbrev pub Kinds : Type 0

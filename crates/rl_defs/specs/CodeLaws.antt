@@ -1,5 +1,5 @@
 -- What holds of domain code that keeps the rules: it never meets a value of the wrong kind.
-use Rattle.std.specs.Prelude.{◌≡◌, ℕ, ◌⊎◌, Bool, true, false, List, map, Option, Some, slice_get}
+use Rattle.std.specs.Prelude.{◌≡◌, ℕ, ◌⊎◌, true, false, List, map, Some, slice_get}
 use Rattle.rl_defs.specs.declared.values.Arg.{Arg}
 use Rattle.rl_defs.specs.declared.values.Cause.TheVariants as cause
 use Rattle.rl_defs.specs.declared.code.Instr.{Instr}
@@ -13,7 +13,7 @@ use Rattle.rl_defs.specs.Domains.{is_native}
 use Rattle.rl_defs.specs.CodeNames.{method_number, methods_of, domain_trait}
 use Rattle.rl_defs.specs.CodeKinds.{kinds_at, moved}
 use Rattle.rl_defs.specs.Sight.{Sight}
-use Rattle.rl_defs.specs.Instructions.{Registers, Outcome, Would, Stuck, Stand, behind_heads, work, Settled, Before, settle}
+use Rattle.rl_defs.specs.Instructions.{Would, Stuck, Stand, behind_heads, work, Before, settle}
 use Rattle.rl_defs.specs.CodeFits.{KeepsRules, Typing, FitsStand, FitsWaiting, FitsSight, FitsAnswer, are_values, all_given_up, after_answer}
 use Rattle.rl_defs.specs.LineRows.{entry_at}
 use Rattle.rl_defs.specs.Crossing.{value_of, entry_registers}

@@ -1,6 +1,5 @@
 -- What the names in domain code stand for.
-use Rattle.std.specs.Prelude.{ℕ, zero, suc, ◌+◌, Bool, true, false, ◌&&◌, List, [], ◌∷◌, map, drop, Option, Some, None, if◌then◌else◌, slice_get, unwrap_or}
-use Rattle.std.specs.Option.{option_map}
+use Rattle.std.specs.Prelude.{ℕ, zero, suc, ◌+◌, Bool, true, false, List, [], ◌∷◌, map, drop, Option, Some, None, if◌then◌else◌, slice_get, unwrap_or}
 use Rattle.std.specs.List.{list_any}
 use Rattle.rl_defs.specs.declared.bundle.Numbered.{Numbered}
 use Rattle.rl_defs.specs.declared.code.DomainLine.{DomainLine}
@@ -12,7 +11,7 @@ use Rattle.rl_defs.specs.declared.tables.MethodRow.{MethodRow}
 use Rattle.rl_defs.specs.declared.tables.Tables.{Tables}
 use Rattle.rl_defs.specs.Words.{same_bytes}
 use Rattle.rl_defs.specs.DomainValue.{Domain}
-use Rattle.rl_defs.specs.Domains.{Lines, trait_name, is_native}
+use Rattle.rl_defs.specs.Domains.{Lines, trait_name}
 use Rattle.rl_defs.specs.Interfaces.{place_of}
 
 -- the number of the struct, or trait, of this name (0 where there is none, which rule 4 refuses)

@@ -1,5 +1,5 @@
 -- Register work: what the lines of domain code come to, up to the next action or trap.
-use Rattle.std.specs.Prelude.{ℕ, zero, suc, ◌+◌, ◌-◌, ◌*◌, ◌/◌, ◌%◌, ◌^◌, ◌==◌, nat_le, nat_lt, ◌&&◌, not, Bool, true, false, if◌then◌else◌, List, [], ◌∷◌, map, drop, Option, Some, None, slice_get, slice_set, unwrap_or, is_some, is_none, bit_and, bit_or, bit_xor}
+use Rattle.std.specs.Prelude.{ℕ, zero, suc, ◌+◌, ◌-◌, ◌*◌, ◌/◌, ◌%◌, ◌^◌, ◌==◌, nat_lt, ◌&&◌, Bool, true, false, if◌then◌else◌, List, [], ◌∷◌, map, drop, Option, Some, None, slice_get, slice_set, unwrap_or, is_some, is_none, bit_and, bit_or, bit_xor}
 use Rattle.std.specs.List.{slice_index_or, list_all, list_any}
 use Rattle.rl_defs.specs.declared.bundle.Numbered.{Numbered}
 use Rattle.rl_defs.specs.declared.values.Value.{Value}
@@ -29,7 +29,7 @@ use Rattle.rl_defs.specs.declared.frame.Action.TheVariants as action
 use Rattle.rl_defs.specs.Sight.{Sight}
 use Rattle.rl_defs.specs.DomainValue.{Domain}
 use Rattle.rl_defs.specs.Domains.{Lines}
-use Rattle.rl_defs.specs.CodeNames.{struct_number, cells_of, method_number, params_of, results_of, slots, imports, place_in, method_at, label_at}
+use Rattle.rl_defs.specs.CodeNames.{struct_number, cells_of, method_number, params_of, results_of, slots, imports, place_in, method_at}
 use Rattle.rl_defs.specs.CodeKinds.{Kinds, kinds_at, kind_in, Need, Number, Copied, Owned, Object, Target, Passed, Read, reads, method_called}
 use Rattle.rl_defs.specs.CodeRules.{object_struct, label_of, place_of_label}
 

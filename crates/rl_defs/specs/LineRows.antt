@@ -1,18 +1,15 @@
 -- What is kept beside the lines of a checked domain, so that no step of a run looks a name up.
-use Rattle.std.specs.Prelude.{◌≡◌, ℕ, ◌+◌, ◌<◌, List, [], ◌∷◌, length, Option, Some, None, slice_get, slice_range, unwrap_or}
-use Rattle.rl_defs.specs.declared.bundle.Numbered.{Numbered}
+use Rattle.std.specs.Prelude.{◌≡◌, ℕ, List, [], ◌∷◌, Option, Some, None, slice_get, unwrap_or}
 use Rattle.rl_defs.specs.declared.code.Register.{Register}
 use Rattle.rl_defs.specs.declared.code.Instr.{Instr}
 use Rattle.rl_defs.specs.declared.code.Instr.TheVariants as instr
-use Rattle.rl_defs.specs.declared.code.DomainLine.{DomainLine}
-use Rattle.rl_defs.specs.declared.code.DomainLine.TheVariants as line
 use Rattle.rl_defs.specs.declared.tables.MethodRow.{MethodRow}
 use Rattle.rl_defs.specs.DomainValue.{Domain}
 use Rattle.rl_defs.specs.Domains.{body_of_function}
 use Rattle.rl_defs.specs.CodeNames.{Function, function_at, struct_number, method_number, methods_of, domain_trait}
 use Rattle.rl_defs.specs.CodeKinds.{Kinds, kinds_at, kind_in, at_label}
 use Rattle.rl_defs.specs.CodeRules.{object_struct, label_of, place_of_label}
-use Rattle.rl_defs.specs.Instructions.{Registers, Stand, with_value, slot_number, import_number, trait_of_kind, behind_heads}
+use Rattle.rl_defs.specs.Instructions.{Registers, with_value, slot_number, import_number, trait_of_kind, behind_heads}
 use Rattle.rl_defs.specs.CodeFits.{Typing, Fits}
 
 -- the method that a function is for, by its number

@@ -1,5 +1,5 @@
 -- The traits that a native body and its import have to have: which methods, in which order, over which structs.
-use Rattle.std.specs.Prelude.{ℕ, ◌==◌, ◌&&◌, ◌||◌, not, Bool, true, false, List, [], ◌∷◌, ◌++◌, length, Option, Some, None, codes, is_none}
+use Rattle.std.specs.Prelude.{ℕ, ◌==◌, ◌&&◌, not, Bool, true, false, List, [], ◌∷◌, ◌++◌, length, codes, is_none}
 use Rattle.std.specs.List.{list_all}
 use Rattle.rl_defs.specs.declared.code.Native.{Native}
 use Rattle.rl_defs.specs.declared.code.Native.TheVariants as native

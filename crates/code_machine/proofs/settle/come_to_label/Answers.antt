@@ -7,4 +7,4 @@ returns c =
     let goes = c.requires.goes in
     jumps_behind c.args.domain.now c.args.place goes.at.number goes.place goes.instr c.args.registers.now goes.at.here goes.leads
     ∙ (c.jump-to.ensures goes.at.number goes.instr goes.at.here goes.place goes.leads goes.types c.args.registers.now goes.fits
-        ∙ ap (standing c.jump-to.result.0) (sym c.empty.ensures))
+    ∙ ap (standing c.jump-to.result.0) (sym c.empty.ensures))

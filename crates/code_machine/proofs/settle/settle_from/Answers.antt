@@ -38,9 +38,9 @@ lines-preserved-in-Next g c =
       keeps = keeps;
       ready = there;
       same =
-        c.lines.invariant.same
-        ∙ (settle_next d sight c.args.live c.lines.left c.lines.place c.lines.held c.work.new.registers c.lines-test.true c.lines.invariant.ready c.in-Next.ensures
-            ∙ settle_behind d sight c.args.live (c.lines.left - 1) from to keeps there c.come-place-in-Next.ensures);
+          c.lines.invariant.same
+          ∙ (settle_next d sight c.args.live c.lines.left c.lines.place c.lines.held c.work.new.registers c.lines-test.true c.lines.invariant.ready c.in-Next.ensures
+          ∙ settle_behind d sight c.args.live (c.lines.left - 1) from to keeps there c.come-place-in-Next.ensures);
     }
 
 pub come_to_label-place-requires-clause-goes : goal.come_to_label-place-requires-clause-goes
@@ -60,16 +60,16 @@ lines-preserved g c =
       keeps = keeps;
       ready = there;
       same =
-        c.lines.invariant.same
-        ∙ (settle_label d sight c.args.live c.lines.left c.lines.place c.lines.held c.work.new.registers c.lines-test.true c.lines.invariant.ready c.in-Jump.ensures
-            ∙ settle_behind d sight c.args.live (c.lines.left - 1) from to keeps there c.come_to_label-place.ensures);
+          c.lines.invariant.same
+          ∙ (settle_label d sight c.args.live c.lines.left c.lines.place c.lines.held c.work.new.registers c.lines-test.true c.lines.invariant.ready c.in-Jump.ensures
+          ∙ settle_behind d sight c.args.live (c.lines.left - 1) from to keeps there c.come_to_label-place.ensures);
     }
 
 pub returns-in-Act : goal.returns-in-Act
 returns-in-Act g c =
     c.lines.invariant.same
     ∙ (settle_acts c.args.domain.now (g.V.View.sight c.args.view.now) c.args.live c.lines.left (standing c.lines.place c.lines.held) c.in-Act.action c.lines-test.true c.lines.invariant.ready c.in-Act.ensures.0
-        ∙ ap (λ (r : Registers). Before c.in-Act.action c.lines.left (standing c.lines.place r)) (sym c.in-Act.ensures.1))
+    ∙ ap (λ (r : Registers). Before c.in-Act.action c.lines.left (standing c.lines.place r)) (sym c.in-Act.ensures.1))
 
 pub returns : goal.returns
 returns g c =
@@ -78,4 +78,4 @@ returns g c =
     let none : c.lines.left ≡ 0 = omega arith in
     c.lines.invariant.same
     ∙ (ap (λ k. settle d sight c.args.live k (standing c.lines.place c.lines.held)) none
-        ∙ settle_ends d sight c.args.live (standing c.lines.place c.lines.held) c.lines.invariant.ready)
+    ∙ settle_ends d sight c.args.live (standing c.lines.place c.lines.held) c.lines.invariant.ready)

@@ -21,37 +21,37 @@ pub returns-in-Has : goal.returns-in-Has
 returns-in-Has g c =
     means c.args.domain.now c.args.place (g.V.View.sight c.args.view.now) c.args.live c.args.registers.now c.has.new.registers c.has.result c.args.instr.now _ c.in-Has.is
     (has_comes _ _ (g.V.View.sight c.args.view.now) c.args.registers.now c.has.new.registers c.has.result _ _ _ _ _
-      (at_line c.args.domain.now c.args.place c.args.instr.now _ _ _ _ c.requires.here c.row-row.ensures c.in-Has.is) c.has.ensures)
+    (at_line c.args.domain.now c.args.place c.args.instr.now _ _ _ _ c.requires.here c.row-row.ensures c.in-Has.is) c.has.ensures)
 
 pub returns-in-Cap : goal.returns-in-Cap
 returns-in-Cap g c =
     means c.args.domain.now c.args.place (g.V.View.sight c.args.view.now) c.args.live c.args.registers.now c.cap.new.registers c.cap.result c.args.instr.now _ c.in-Cap.is
     (cap_comes _ _ (g.V.View.sight c.args.view.now) c.args.registers.now c.cap.new.registers c.cap.result _ _ _ _ _
-      (at_line c.args.domain.now c.args.place c.args.instr.now _ _ _ _ c.requires.here c.row-row.ensures c.in-Cap.is) c.cap.ensures)
+    (at_line c.args.domain.now c.args.place c.args.instr.now _ _ _ _ c.requires.here c.row-row.ensures c.in-Cap.is) c.cap.ensures)
 
 pub returns-in-New : goal.returns-in-New
 returns-in-New g c =
     means c.args.domain.now c.args.place (g.V.View.sight c.args.view.now) c.args.live c.args.registers.now c.args.registers.now c.new_object.result c.args.instr.now _ c.in-New.is
     (new_comes _ _ c.args.live c.args.registers.now c.new_object.result _ _ _ _ _
-      (at_line c.args.domain.now c.args.place c.args.instr.now _ _ _ _ c.requires.here c.row-row.ensures c.in-New.is) (c.new_object.ensures c.args.registers.now))
+    (at_line c.args.domain.now c.args.place c.args.instr.now _ _ _ _ c.requires.here c.row-row.ensures c.in-New.is) (c.new_object.ensures c.args.registers.now))
 
 pub returns-in-Take : goal.returns-in-Take
 returns-in-Take g c =
     means c.args.domain.now c.args.place (g.V.View.sight c.args.view.now) c.args.live c.args.registers.now c.args.registers.now c.take.result c.args.instr.now _ c.in-Take.is
     (take_comes _ _ (g.V.View.sight c.args.view.now) c.args.registers.now c.take.result _ _ _ _ _
-      (at_line c.args.domain.now c.args.place c.args.instr.now _ _ _ _ c.requires.here c.row-row.ensures c.in-Take.is) (c.take.ensures c.args.registers.now))
+    (at_line c.args.domain.now c.args.place c.args.instr.now _ _ _ _ c.requires.here c.row-row.ensures c.in-Take.is) (c.take.ensures c.args.registers.now))
 
 pub returns-in-Put : goal.returns-in-Put
 returns-in-Put g c =
     means c.args.domain.now c.args.place (g.V.View.sight c.args.view.now) c.args.live c.args.registers.now c.args.registers.now c.put_object.result c.args.instr.now _ c.in-Put.is
     (put_comes _ _ (g.V.View.sight c.args.view.now) c.args.registers.now c.put_object.result _ _ _ _ _
-      (at_line c.args.domain.now c.args.place c.args.instr.now _ _ _ _ c.requires.here c.row-row.ensures c.in-Put.is) c.put_object.ensures)
+    (at_line c.args.domain.now c.args.place c.args.instr.now _ _ _ _ c.requires.here c.row-row.ensures c.in-Put.is) c.put_object.ensures)
 
 pub returns-in-Set : goal.returns-in-Set
 returns-in-Set g c =
     means c.args.domain.now c.args.place (g.V.View.sight c.args.view.now) c.args.live c.args.registers.now c.args.registers.now c.set_cell.result c.args.instr.now _ c.in-Set.is
     (set_comes _ _ (g.V.View.sight c.args.view.now) c.args.registers.now c.set_cell.result _ _ _ _ _ _
-      (at_line c.args.domain.now c.args.place c.args.instr.now _ _ _ _ c.requires.here c.row-row.ensures c.in-Set.is) (c.set_cell.ensures c.args.domain.now (sym c.tables.ensures)))
+    (at_line c.args.domain.now c.args.place c.args.instr.now _ _ _ _ c.requires.here c.row-row.ensures c.in-Set.is) (c.set_cell.ensures c.args.domain.now (sym c.tables.ensures)))
 
 pub call-requires : goal.call-requires
 call-requires g c =
@@ -72,7 +72,7 @@ returns-in-Call g c =
     let comes = subst (λ (xs : List CallArg). Comes (unless_trap (args_fit (params_of (slice_get (methods_of c.args.domain.now.tables of) number)) (map (given_by regs) xs)) cause.Range (action.Call (target (value_in regs c.in-Call.target)) number (map (given_by regs) xs))) regs regs c.call.result) c.as_slice.ensures from_tables in
     means c.args.domain.now c.args.place (g.V.View.sight c.args.view.now) c.args.live regs regs c.call.result c.args.instr.now _ c.in-Call.is
     (call_comes _ _ regs c.call.result _ _ _ _ _ _ _ _ _
-      (at_line c.args.domain.now c.args.place c.args.instr.now _ _ _ _ c.requires.here c.row-row.ensures c.in-Call.is) comes)
+    (at_line c.args.domain.now c.args.place c.args.instr.now _ _ _ _ c.requires.here c.row-row.ensures c.in-Call.is) comes)
 
 pub returns-in-Ret : goal.returns-in-Ret
 returns-in-Ret g c =
@@ -83,4 +83,4 @@ returns-in-Ret g c =
     let comes = subst (λ (xs : List Register). Comes (unless_trap (values_fit (results_of (slice_get (methods_of c.args.domain.now.tables of) number)) (map (result_in regs) xs)) cause.Range (action.Ret (map (result_in regs) xs))) regs regs c.give_back.result) c.as_slice-in-Ret.ensures from_tables in
     means c.args.domain.now c.args.place (g.V.View.sight c.args.view.now) c.args.live regs regs c.give_back.result c.args.instr.now _ c.in-Ret.is
     (ret_comes _ _ regs c.give_back.result _ _ _ _
-      (at_line c.args.domain.now c.args.place c.args.instr.now _ _ _ _ c.requires.here c.row-row.ensures c.in-Ret.is) comes)
+    (at_line c.args.domain.now c.args.place c.args.instr.now _ _ _ _ c.requires.here c.row-row.ensures c.in-Ret.is) comes)
