@@ -169,7 +169,7 @@ answer_goes types d kinds instr.Trap a fits = absurd fits
 answer_goes types d kinds i a fits = refl
 
 -- only a call fails, and it has a label
-failed_label : (types : Typing) (d : Domain) (kinds : Kinds) (i : Instr) (failure : RpcCode) → FitsAnswer types d kinds i (answer.Failed failure) → (label : List ℕ) × (label_of i ≡ Some label)
+pub failed_label : (types : Typing) (d : Domain) (kinds : Kinds) (i : Instr) (failure : RpcCode) → FitsAnswer types d kinds i (answer.Failed failure) → (label : List ℕ) × (label_of i ≡ Some label)
 failed_label types d kinds (instr.Call c method args results e label) failure fits = (label, refl)
 failed_label types d kinds i failure fits = absurd fits
 

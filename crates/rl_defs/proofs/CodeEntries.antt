@@ -65,7 +65,7 @@ given_fits types (k ∷ ks) [] j r are = absurd (cc)
 given_fits types (k ∷ ks) (a ∷ args) j zero are = and_left (fits_kind types (as_register k) (Some (value_of a))) (are_values types ks (map value_of args)) are
 given_fits types (k ∷ ks) (a ∷ args) j (suc r) are = given_fits types ks args j r (and_right (fits_kind types (as_register k) (Some (value_of a))) (are_values types ks (map value_of args)) are)
 
-as_many : (types : Typing) (ks : List Kind) (values : List Value) → are_values types ks values ≡ true → length ks ≡ length values
+pub as_many : (types : Typing) (ks : List Kind) (values : List Value) → are_values types ks values ≡ true → length ks ≡ length values
 as_many types [] [] are = refl
 as_many types [] (v ∷ values) are = absurd (cc)
 as_many types (k ∷ ks) [] are = absurd (cc)

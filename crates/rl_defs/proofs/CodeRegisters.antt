@@ -237,12 +237,12 @@ keeps_none : (b : Bool) → let none : Option Value = None in none ≡ (if b the
 keeps_none true = refl
 keeps_none false = refl
 
-keep_at : (regs : Registers) (n r : ℕ) (among : List Register) → slice_index_or (keep_from n among regs) r None ≡ (if is_listed (n + r) among then slice_index_or regs r None else None)
+pub keep_at : (regs : Registers) (n r : ℕ) (among : List Register) → slice_index_or (keep_from n among regs) r None ≡ (if is_listed (n + r) among then slice_index_or regs r None else None)
 keep_at [] n r among = keeps_none (is_listed (n + r) among)
 keep_at (v ∷ regs) n zero among = rw add-zero refl
 keep_at (v ∷ regs) n (suc r) among = keep_at regs (n + 1) r among ∙ ap (λ m. if is_listed m among then slice_index_or regs r None else None) (omega arith)
 
-length-keep : (regs : Registers) (n : ℕ) (among : List Register) → length (keep_from n among regs) ≡ length regs
+pub length-keep : (regs : Registers) (n : ℕ) (among : List Register) → length (keep_from n among regs) ≡ length regs
 length-keep [] n among = refl
 length-keep (v ∷ regs) n among = ap suc (length-keep regs (n + 1) among)
 

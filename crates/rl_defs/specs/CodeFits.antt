@@ -17,6 +17,8 @@ use Rattle.rl_defs.specs.declared.tables.StructRow.{StructRow}
 use Rattle.rl_defs.specs.declared.tables.MethodRow.{MethodRow}
 use Rattle.rl_defs.specs.declared.tables.TraitRow.{TraitRow}
 use Rattle.rl_defs.specs.declared.tables.Tables.{Tables}
+use Rattle.rl_defs.specs.declared.frame.FrameBody.{FrameBody}
+use Rattle.rl_defs.specs.declared.frame.FrameBody.TheVariants as body
 use Rattle.rl_defs.specs.declared.frame.Answer.{Answer}
 use Rattle.rl_defs.specs.declared.frame.Answer.TheVariants as answer
 use Rattle.rl_defs.specs.Refusals.{Nowhere}
@@ -83,6 +85,11 @@ fits_kind types _ _ = false
 pub record Fits (types : Typing) (kinds : Kinds) (regs : Registers) : Type 0 where
   pub all : length regs ≡ 32
   pub each : (r : ℕ) → fits_kind types (slice_index_or kinds r held.Empty) (slice_index_or regs r None) ≡ true
+
+-- where a code frame stands (a native frame stands nowhere)
+abbrev pub stand_of : {N : Type 0} → FrameBody N → Stand
+stand_of (body.Code line regs) = record { at = line; regs = regs }
+stand_of (body.Native held state) = record { at = 0; regs = [] }
 
 -- a frame stands at a line of a function that is reached from the line before it, with registers of the kinds that the line has
 pub record FitsStand (types : Typing) (d : Domain) (s : Stand) : Type 0 where

@@ -262,7 +262,8 @@ impl Registers {
 
     /// The same registers once more.
     pub fn copied(&self) -> Registers
-        ensures { result ≡ self.now }
+        ensures value { result ≡ self.now }
+        ensures count { length self.now ≡ 32 }
     {
         Registers { items: self.items }
     }

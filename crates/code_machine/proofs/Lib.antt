@@ -1,0 +1,7 @@
+pub mod ByPlace
+pub mod Allowing
+pub mod Naming
+pub mod Going
+pub mod Keeping
+pub mod Entering
+pub mod Answering

@@ -1,0 +1,7 @@
+use Rattle.std.proofs.Common.{◌≡◌, drop}
+use Rattle.rl_defs.specs.CodeKinds.{passed}
+use Rattle.rl_defs.specs.CodeFits.{all_given_up}
+use Rattle.code_machine.proofs.answer.give_up_passed.Given as goal
+
+abbrev pub invariant-each : goal.invariant-each
+invariant-each l = all_given_up (passed (drop l.arg-index l.args)) l.registers ≡ all_given_up (passed l.args) l.initial.registers
