@@ -5,11 +5,11 @@ use Rattle.rl_defs.specs.declared.LoadFault.TheVariants.{Refused, Memory}
 use Rattle.rl_defs.specs.declared.code.Instr.TheVariants as instr
 use Rattle.rl_defs.specs.declared.code.DomainLine.{DomainLine}
 use Rattle.rl_defs.specs.declared.code.DomainLine.TheVariants as line
-use Rattle.rl_defs.specs.Tokens.{Token, HasTokens, IsSkipped}
+use Rattle.rl_defs.specs.Tokens.{Token, HasTokens}
 use Rattle.rl_defs.specs.DomainForms.{spell_line, HasDecimals, PlaceIsDecimal, IsDomainLine}
 use Rattle.rl_defs.specs.DomainParts.{domain_part}
 use Rattle.rl_text.specs.Reading.{name_at, key_at, mark_at}
-use Rattle.rl_text.specs.Forms.{IsRefused, Reads}
+use Rattle.rl_text.specs.Forms.{IsRefused, Reads, OneForm, SkippedIsNoForm}
 use Rattle.rl_text.proofs.FormLaws as forms
 use Rattle.rl_text.proofs.FormLaws.{IsReading}
 use Rattle.rl_text.proofs.PartRules.{AreForms}
@@ -36,10 +36,10 @@ reading = record {
   nothing = λ text. nothing;
 }
 
-pub one_form : (a b : DomainLine) (text : List ℕ) → IsDomainLine a text → IsDomainLine b text → a ≡ b
+pub one_form : OneForm IsDomainLine
 one_form a b text f g = forms.one_form IsSpelled read reading a b text f.tokens g.tokens
 
-pub skipped_no_form : (text : List ℕ) (form : DomainLine) → IsSkipped text → IsDomainLine form text → ⊥
+pub skipped_no_form : SkippedIsNoForm IsDomainLine
 skipped_no_form text form h f = forms.skipped_no_form IsSpelled read reading text form h f.tokens
 
 pub domain_forms : AreForms domain_part

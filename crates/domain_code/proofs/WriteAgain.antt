@@ -11,9 +11,10 @@ use Rattle.rl_defs.specs.Parts.{StandFor, numbered, block_behind, forms_of}
 use Rattle.rl_defs.specs.DomainForms.{spell_line, HasDecimals, PlaceIsDecimal, IsDomainLine}
 use Rattle.rl_defs.specs.DomainParts.{domain_part, rest_of_domain, domains_of}
 use Rattle.rl_defs.specs.DomainCanonical.{depth_of, depth_behind, write_lines}
+use Rattle.rl_text.specs.Writable.{renumbered}
 use Rattle.rl_text.proofs.WrittenLines.{written_first, written_has, written_decimal}
 use Rattle.domain_code.specs.Decimals.{names_place}
-use Rattle.domain_code.specs.Writable.{renumbered, written, CanBeRead, IsReadAgain, GoOn, BeginOnce, IsDomainAgain}
+use Rattle.domain_code.specs.Writable.{written, CanBeRead, IsReadAgain, GoOn, BeginOnce, IsDomainAgain}
 use Rattle.domain_code.proofs.DomainLaws.{domain_forms, PlaceRule, place_rule}
 use Rattle.domain_code.proofs.OrderLaws.{ordered_nowhere}
 

@@ -1,5 +1,5 @@
 -- Reading a domain part line by line.
-use Rattle.std.specs.Prelude.{◌≡◌, ℕ, ◌⊎◌, List, [], ◌∷◌, ◌++◌, Option, Some, None, Result, Ok, Err}
+use Rattle.std.specs.Prelude.{◌≡◌, ℕ, ◌⊎◌, List, [], ◌∷◌, ◌++◌, Some, Result, Ok, Err}
 use Rattle.rl_defs.specs.declared.LoadFault.{LoadFault}
 use Rattle.rl_defs.specs.declared.LoadFault.TheVariants.{Refused, Memory}
 use Rattle.rl_defs.specs.declared.bundle.Numbered.{Numbered}
@@ -22,10 +22,6 @@ block_of (Declares words slots native) = parts.Declares words slots native
 block_of BehindFunction = parts.BehindFunction
 block_of InFunction = parts.InFunction
 block_of BehindEnd = parts.BehindEnd
-
-abbrev pub GivesBlock : Option Block → Option parts.Block → Type 0
-GivesBlock None next = next ≡ None
-GivesBlock (Some block) next = next ≡ Some (block_of block)
 
 -- domains, and those of the lines behind them: the first of these lines, up to the next that begins a domain, belong to the last
 abbrev pub joined : List DomainText → Lines → List DomainText

@@ -4,16 +4,11 @@ use Rattle.rl_defs.specs.declared.code.DomainLine.{DomainLine}
 use Rattle.rl_defs.specs.Domains.{Lines}
 use Rattle.rl_defs.specs.Lines.{lines_of}
 use Rattle.rl_defs.specs.Refusals.{Nowhere}
-use Rattle.rl_defs.specs.Parts.{StandFor, numbered, block_behind, forms_of}
+use Rattle.rl_defs.specs.Parts.{StandFor, block_behind, forms_of}
 use Rattle.rl_defs.specs.DomainForms.{spell_line}
 use Rattle.rl_defs.specs.DomainParts.{Outside, domain_part, begins_domain, FailsDomains, AreDomains}
 use Rattle.rl_defs.specs.DomainCanonical.{depth_of, depth_behind}
-use Rattle.rl_text.specs.Writable.{AreWritable, written_inside}
-
--- lines, numbered anew from this number on
-abbrev pub renumbered : ℕ → Lines → Lines
-renumbered number [] = []
-renumbered number (l ∷ ls) = numbered number l.form ∷ renumbered (number + 1) ls
+use Rattle.rl_text.specs.Writable.{AreWritable, written_inside, renumbered}
 
 -- a line as it is written behind so many open blocks, without its line feed
 abbrev pub written : ℕ → DomainLine → List ℕ

@@ -1,14 +1,17 @@
 //! What holds of the forms of the domain part, whoever reads or writes them.
-ghost use Rattle.domain_code.specs.Laws.{OneForm, SkippedIsNoForm, OnePart, OneCut};
+ghost use Rattle.rl_defs.specs.DomainForms.{IsDomainLine};
+ghost use Rattle.rl_defs.specs.DomainParts.{domain_part};
+ghost use Rattle.rl_text.specs.Forms.{OneForm, SkippedIsNoForm, OnePart};
+ghost use Rattle.domain_code.specs.Laws.{OneCut};
 
 /// No two forms share a spelling, and a line without tokens is none.
 pub fn one_form()
-    ensures form { OneForm }
-    ensures skipped { SkippedIsNoForm }
+    ensures form { OneForm IsDomainLine }
+    ensures skipped { SkippedIsNoForm IsDomainLine }
 {}
 
 /// The texts of a part stand for one list of lines at most, and have one list of domains at most.
 pub fn one_part()
-    ensures lines { OnePart }
+    ensures lines { OnePart domain_part }
     ensures domains { OneCut }
 {}

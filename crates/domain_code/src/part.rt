@@ -4,7 +4,8 @@ ghost use Rattle.rl_defs.specs.Refusals.{Answers};
 ghost use Rattle.rl_defs.specs.DomainParts.{FailsDomains, AreDomains, next_block, begins_domain, ends};
 ghost use Rattle.rl_text.specs.Places.{text_of, IsWithin, AreNumbered, first_number};
 ghost use Rattle.domain_code.specs.declared.part.Block.TheVariants as Block;
-ghost use Rattle.domain_code.specs.Parts.{block_of, GivesBlock, Joins, TakesLine};
+ghost use Rattle.rl_text.specs.PartSteps.{GivesBlock};
+ghost use Rattle.domain_code.specs.Parts.{block_of, Joins, TakesLine};
 
 use crate::read::read_form;
 use rl_defs::bundle::Numbered;
@@ -56,7 +57,7 @@ fn begins_domain(form: &DomainLine) -> bool
 
 // Where a line leads among the lines that a domain declares things with.
 fn behind_declaration(words: bool, slots: bool, native: bool, form: &DomainLine) -> Option<Block>
-    ensures { GivesBlock result (next_block (block_of (Block.Declares words slots native)) form.now) }
+    ensures { GivesBlock block_of result (next_block (block_of (Block.Declares words slots native)) form.now) }
 {
     match form {
         DomainLine::Words(_) => {
@@ -107,7 +108,7 @@ fn behind_declaration(words: bool, slots: bool, native: bool, form: &DomainLine)
 
 // Where a line of a function leads.
 fn behind_code(form: &DomainLine) -> Option<Block>
-    ensures { GivesBlock result (next_block (block_of Block.InFunction) form.now) }
+    ensures { GivesBlock block_of result (next_block (block_of Block.InFunction) form.now) }
 {
     match form {
         DomainLine::Head(_, _) => Some(Block::InFunction),
@@ -124,7 +125,7 @@ fn behind_code(form: &DomainLine) -> Option<Block>
 
 // Where a line leads, where it may stand there.
 fn after(block: Block, form: &DomainLine) -> Option<Block>
-    ensures { GivesBlock result (next_block (block_of block) form.now) }
+    ensures { GivesBlock block_of result (next_block (block_of block) form.now) }
 {
     match block {
         Block::Outside => match form {

@@ -1,11 +1,16 @@
 -- The lines of the interface part, as readings of their tokens.
 use Rattle.std.proofs.Common.{◌≡◌, ℕ, List, [], Option, None, Some, refl, subst}
 use Rattle.rl_defs.specs.declared.idl.IdlLine.{IdlLine}
-use Rattle.rl_defs.specs.Tokens.{Token, HasTokens, IsSkipped}
+use Rattle.rl_defs.specs.Tokens.{Token, HasTokens}
 use Rattle.rl_defs.specs.IdlForms.{spell_line, IsIdlLine}
+use Rattle.rl_defs.specs.IdlParts as parts
+use Rattle.rl_defs.specs.IdlParts.{interface_part}
 use Rattle.rl_text.specs.Reading.{name_at, key_at, mark_at}
-use Rattle.rl_text.proofs.FormLaws as forms
-use Rattle.rl_text.proofs.FormLaws.{IsReading}
+use Rattle.rl_text.proofs.FormLaws.{IsReading, one_form, skipped_no_form}
+use Rattle.rl_text.proofs.PartRules.{AreForms}
+use Rattle.idl_syntax.specs.declared.part.Block.{Block}
+use Rattle.idl_syntax.specs.declared.part.Block.TheVariants as b
+use Rattle.idl_syntax.specs.Parts.{block_of}
 use Rattle.idl_syntax.specs.Lines.{line_at, form_at, open_at, field_at}
 use Rattle.idl_syntax.proofs.LineTakes.{line_takes}
 use Rattle.idl_syntax.proofs.LineAgain.{line_again}
@@ -29,8 +34,11 @@ reading = record {
   nothing = λ text. nothing;
 }
 
-pub one_form : (a b : IdlLine) (text : List ℕ) → IsIdlLine a text → IsIdlLine b text → a ≡ b
-one_form a b text f g = forms.one_form IsIdlLine read reading a b text f g
+pub interface_forms : AreForms interface_part
+interface_forms = record { one = one_form IsIdlLine read reading; skipped = skipped_no_form IsIdlLine read reading }
 
-pub skipped_no_form : (text : List ℕ) (form : IdlLine) → IsSkipped text → IsIdlLine form text → ⊥
-skipped_no_form text form h f = forms.skipped_no_form IsIdlLine read reading text form h f
+pub not_outside : (block : Block) → (block ≡ b.Outside → ⊥) → block_of block ≡ parts.Outside → ⊥
+not_outside b.Outside h e = h refl
+not_outside b.InStruct h e = cc
+not_outside b.InTrait h e = cc
+not_outside b.BeforeMethod h e = cc

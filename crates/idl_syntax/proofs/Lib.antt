@@ -3,7 +3,6 @@ pub mod PartTakes
 pub mod LineTakes
 pub mod LineAgain
 pub mod IdlLaws
-pub mod PartRules
 pub mod PartNumbers
 pub mod WriteLaws
 pub mod WriteAgain

@@ -1,22 +1,18 @@
 -- What is written is read again.
-use Rattle.std.specs.Prelude.{ℕ, ◌+◌, ◌≤◌, List, [], ◌∷◌, length}
+use Rattle.std.specs.Prelude.{ℕ, ◌≤◌, List, [], ◌∷◌, length}
 use Rattle.rl_defs.specs.declared.bundle.Numbered.{Numbered}
 use Rattle.rl_defs.specs.declared.idl.IdlLine.{IdlLine}
 use Rattle.rl_defs.specs.Lines.{lines_of}
-use Rattle.rl_defs.specs.IdlParts.{StandFor, numbered}
+use Rattle.rl_defs.specs.Parts.{StandFor}
+use Rattle.rl_defs.specs.IdlParts.{interface_part}
 use Rattle.rl_defs.specs.IdlForms.{spell_line, IsForm, IsIdlLine}
 use Rattle.rl_defs.specs.IdlCanonical.{canonical, depth_of}
-use Rattle.rl_text.specs.Writable.{AreWritable, written_inside}
+use Rattle.rl_text.specs.Writable.{AreWritable, written_inside, renumbered}
 
 -- A text that was written for a line is that line, where its types are types, its names are names, and it is no longer than a line
 -- may be.
 abbrev pub IsReadAgain : IdlLine → List ℕ → Type 0
 IsReadAgain line text = IsForm line → AreWritable (spell_line canonical line) → length text ≤ 2048 → IsIdlLine line text
-
--- the lines of a part, numbered anew from this number on
-abbrev pub renumbered : ℕ → List (Numbered IdlLine) → List (Numbered IdlLine)
-renumbered number [] = []
-renumbered number (line ∷ lines) = numbered number line.form ∷ renumbered (number + 1) lines
 
 -- a line of a part as it is written, without its line feed
 abbrev pub written : IdlLine → List ℕ
@@ -29,4 +25,4 @@ CanBeRead (line ∷ lines) = (IsForm line.form × AreWritable (spell_line canoni
 
 -- A text that was written for a part stands for the same lines, but for their numbers.
 abbrev pub IsPartReadAgain : List (Numbered IdlLine) → List ℕ → Type 0
-IsPartReadAgain lines text = CanBeRead lines → (first : ℕ) → StandFor first (lines_of text) (renumbered first lines)
+IsPartReadAgain lines text = CanBeRead lines → (first : ℕ) → StandFor interface_part first (lines_of text) (renumbered first lines)

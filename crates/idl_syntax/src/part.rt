@@ -1,9 +1,11 @@
 //! The lines of an interface part, in order.
 ghost use Rattle.std.specs.Prelude.{◌≡◌, ℕ, ◌+◌, ◌<◌, ◌^◌, List, map, length};
 ghost use Rattle.rl_defs.specs.Refusals.{Answers};
-ghost use Rattle.rl_defs.specs.IdlParts.{StandFor, FailsIdl, next_block};
+ghost use Rattle.rl_defs.specs.Parts.{StandFor};
+ghost use Rattle.rl_defs.specs.IdlParts.{interface_part, FailsIdl, next_block};
 ghost use Rattle.rl_text.specs.Places.{text_of, IsWithin, AreNumbered, first_number};
-ghost use Rattle.idl_syntax.specs.Parts.{block_of, GivesBlock, TakesLine};
+ghost use Rattle.rl_text.specs.PartSteps.{GivesBlock, TakesLine};
+ghost use Rattle.idl_syntax.specs.Parts.{block_of};
 
 use crate::read::read_form;
 use rl_defs::LoadFault;
@@ -26,7 +28,7 @@ enum Block {
 
 // The block that is open behind a line, where the line may stand there.
 fn after(block: Block, form: &IdlLine) -> Option<Block>
-    ensures { GivesBlock result (next_block (block_of block) form.now) }
+    ensures { GivesBlock block_of result (next_block (block_of block) form.now) }
 {
     match block {
         Block::Outside => match form {
@@ -63,7 +65,7 @@ fn take_line(
     line: &Line,
 ) -> Result<Block, LoadFault>
     requires { IsWithin bytes.now line.now }
-    ensures { TakesLine line.now.number (text_of bytes.now line.now) block forms.old forms.new result }
+    ensures { TakesLine interface_part block_of line.now.number (text_of bytes.now line.now) block forms.old forms.new result }
 {
     let form = match read_form(alloc, buffer, bytes, line) {
         Ok(Some(form)) => form,
@@ -90,7 +92,7 @@ pub fn read_idl(alloc: Global, bytes: &[u8], lines: &[Line]) -> Result<Idl, Load
     requires numbered { AreNumbered bytes.now (first_number lines.now) lines.now }
     requires room { first_number lines.now + length lines.now < 2 ^ 32 }
     ensures { let first = first_number lines.now in let texts = map (text_of bytes.now) lines.now in
-        Answers (FailsIdl first texts) (λ idl. StandFor first texts idl.lines) result }
+        Answers (FailsIdl first texts) (λ idl. StandFor interface_part first texts idl.lines) result }
 {
     let mut buffer = Vec::new(alloc);
     let mut forms = List::new(alloc);

@@ -30,7 +30,7 @@ use Rattle.rl_defs.specs.CodeLaws.{FitsArguments, EntriesFit}
 use Rattle.rl_defs.proofs.CodeRegisters.{and_left, and_right}
 use Rattle.rl_defs.proofs.CodeBlocks.{inside_below}
 use Rattle.rl_defs.proofs.CodeStands.{keeps_at, kinds_next, function_next, reached_next}
-use Rattle.rl_defs.proofs.SmallRows.{small_method}
+use Rattle.rl_defs.proofs.TableSizes.{small_method}
 
 set_seam : (front : Kinds) (k y : RegKind) (rest : Kinds) → slice_set (front ++ k ∷ rest) (length front) y ≡ front ++ y ∷ rest
 set_seam [] k y rest = refl

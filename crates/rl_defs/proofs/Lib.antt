@@ -13,5 +13,5 @@ pub mod CodeStands
 pub mod CodeWidths
 pub mod CodeSafe
 pub mod CodeAnswers
-pub mod SmallRows
+pub mod TableSizes
 pub mod CodeEntries

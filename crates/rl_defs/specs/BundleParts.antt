@@ -12,7 +12,7 @@ use Rattle.rl_defs.specs.Refusals.{Failing}
 use Rattle.rl_defs.specs.Tokens.{Token, Name, Sign, HasTokens}
 use Rattle.rl_defs.specs.Parts.{Grammar, FailsPart}
 use Rattle.rl_defs.specs.Parts as parts
-use Rattle.rl_defs.specs.IdlParts as idl
+use Rattle.rl_defs.specs.IdlParts.{interface_part, FailsIdl}
 use Rattle.rl_defs.specs.DomainParts.{FailsDomains, AreDomains}
 use Rattle.rl_defs.specs.BundleForms.{IsPlanLine, IsClientLine}
 
@@ -96,7 +96,7 @@ pub record IsPart (texts : List (List ℕ)) (h : Header) (first : ℕ) (inside :
 
 -- what rules 1 and 2 refuse in a part
 abbrev pub FailsIn : Header → ℕ → List (List ℕ) → Failing
-FailsIn Interfaces first texts = idl.FailsIdl first texts
+FailsIn Interfaces first texts = FailsIdl first texts
 FailsIn Domains first texts = FailsDomains first texts
 FailsIn ThePlan first texts = FailsPlan first texts
 FailsIn TheClients first texts = FailsClients first texts
@@ -162,7 +162,7 @@ StandsIn texts h stands none =
 
 -- The lines stand for this bundle.
 pub record IsBundle (texts : List (List ℕ)) (b : Bundle) : Type 0 where
-  pub idl : StandsIn texts Interfaces (λ first inside. idl.StandFor first inside b.idl.lines) (b.idl.lines ≡ [])
+  pub idl : StandsIn texts Interfaces (λ first inside. parts.StandFor interface_part first inside b.idl.lines) (b.idl.lines ≡ [])
   pub domains : StandsIn texts Domains (λ first inside. AreDomains first inside b.domains) (b.domains ≡ [])
   pub plan : StandsIn texts ThePlan (λ first inside. parts.StandFor plan_part first inside b.plan.lines) (b.plan.lines ≡ [])
   pub clients : StandsIn texts TheClients (λ first inside. parts.StandFor client_part first inside b.clients.lines) (b.clients.lines ≡ [])

@@ -17,6 +17,7 @@ pub mod Worked
 pub mod Lines
 pub mod Tokens
 pub mod IdlForms
+pub mod Parts
 pub mod IdlParts
 pub mod Canonical
 pub mod IdlCanonical
@@ -26,7 +27,6 @@ pub mod Holding
 pub mod TypeRules
 pub mod NameRules
 pub mod MethodRules
-pub mod Parts
 pub mod DomainForms
 pub mod DomainParts
 pub mod DomainCanonical

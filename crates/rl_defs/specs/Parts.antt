@@ -72,3 +72,7 @@ abbrev pub FailsPart : {Form Block : Type 0} → Grammar Form Block → ℕ → 
 FailsPart G first texts number rule =
     ((rule ≡ 1) × IsNoForm G first texts number)
     ⊎ ((rule ≡ 2) × (IsMisplaced G first texts number ⊎ IsLeftOpen G first texts number))
+
+-- rule 1 of a line alone, which is to be a form
+abbrev pub FailsLine : {Form : Type 0} → (Form → List ℕ → Type 0) → ℕ → List ℕ → Failing
+FailsLine {Form} is_line number text line rule = (line ≡ number) × (rule ≡ 1) × ((form : Form) → is_line form text → ⊥)

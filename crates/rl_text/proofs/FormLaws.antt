@@ -4,9 +4,10 @@ use Rattle.rl_defs.specs.declared.LoadFault.{LoadFault}
 use Rattle.rl_defs.specs.declared.LoadFault.TheVariants.{Refused, Memory}
 use Rattle.rl_defs.specs.Refusals.{IsFirst, Answers}
 use Rattle.rl_defs.specs.Tokens.{Token, HasTokens, IsSkipped, FailsTokens}
+use Rattle.rl_defs.specs.Parts.{FailsLine}
 use Rattle.rl_text.specs.declared.lexeme.Lexeme.{Lexeme}
 use Rattle.rl_text.specs.Lexemes.{token_of}
-use Rattle.rl_text.specs.Forms.{IsRefused, Reads, FailsLine}
+use Rattle.rl_text.specs.Forms.{IsRefused, Reads, OneForm, SkippedIsNoForm}
 use Rattle.rl_text.proofs.ReadingLaws.{one_reading}
 
 -- A form that a text is, found in the text's tokens.
@@ -30,11 +31,11 @@ pub no_line : {Form : Type 0} (is_line : Form → List ℕ → Type 0) (read : L
 no_line is_line read r text ts h e form f = let g = sym e ∙ reads_form is_line read r text ts form h f in cc
 
 -- no two forms share a spelling
-pub one_form : {Form : Type 0} (is_line : Form → List ℕ → Type 0) (read : List ℕ → List Token → Option Form) → IsReading is_line read → (a b : Form) (text : List ℕ) → is_line a text → is_line b text → a ≡ b
+pub one_form : {Form : Type 0} (is_line : Form → List ℕ → Type 0) (read : List ℕ → List Token → Option Form) → IsReading is_line read → OneForm is_line
 one_form is_line read r a b text f g = let x = r.finds text a f in let e = sym x.found ∙ reads_form is_line read r text x.tokens b x.has g in cc
 
 -- a line without tokens is no form
-pub skipped_no_form : {Form : Type 0} (is_line : Form → List ℕ → Type 0) (read : List ℕ → List Token → Option Form) → IsReading is_line read → (text : List ℕ) (form : Form) → IsSkipped text → is_line form text → ⊥
+pub skipped_no_form : {Form : Type 0} (is_line : Form → List ℕ → Type 0) (read : List ℕ → List Token → Option Form) → IsReading is_line read → SkippedIsNoForm is_line
 skipped_no_form is_line read r text form h f = no_line is_line read r text [] h (r.nothing text) form f
 
 -- a line that can have no tokens

@@ -1,5 +1,5 @@
 -- Parts with a comma before each, as a loop reads them.
-use Rattle.std.proofs.Common.{◌≡◌, ℕ, zero, suc, ◌<◌, ◌≤◌, ◌⊎◌, inl, inr, Bool, true, false, List, [], ◌∷◌, ◌++◌, length, Option, None, Some, Err, MatchBool, refl, sym, ap, subst, ◌∙◌, append_assoc, append-nil, length-append, arith}
+use Rattle.std.proofs.Common.{◌≡◌, ℕ, zero, suc, ◌<◌, ◌≤◌, ◌⊎◌, inl, inr, Bool, true, false, List, [], ◌∷◌, ◌++◌, length, Option, None, Some, Result, Ok, Err, MatchBool, OnOk, refl, sym, ap, subst, ◌∙◌, append_assoc, append-nil, length-append, arith}
 use Rattle.rl_defs.specs.declared.lexeme.Mark.TheVariants as m
 use Rattle.rl_defs.specs.Tokens.{Token, Sign}
 use Rattle.rl_defs.specs.IdlForms.{spell_more}
@@ -41,12 +41,12 @@ shortens spell Valid item takes ts a rest e = let p = takes ts a rest e in omega
 comma_shortens : (ts rest : List Token) → mark_at m.Comma ts ≡ Some rest → length rest < length ts
 comma_shortens ts rest e = omega (arith, ap length (mark_takes m.Comma ts rest e))
 
-next_step : {A : Type 0} (item : Reader A) (shorter : Shortens item) (ts : List Token) (front : List A) (left behind rest : List Token) (a : A) (fuel : ℕ) → length left ≤ fuel → with_front front (many_at item fuel left) ≡ all_at item ts → mark_at m.Comma left ≡ Some behind → item behind ≡ Some (part a rest) → Progress item ts (front ++ a ∷ []) rest
+next_step : {A : Type 0} (item : Reader A) (ts : List Token) (front : List A) (left behind rest : List Token) (a : A) (fuel : ℕ) → length left ≤ fuel → with_front front (many_at item fuel left) ≡ all_at item ts → mark_at m.Comma left ≡ Some behind → item behind ≡ Some (part a rest) → length rest ≤ length behind → Progress item ts (front ++ a ∷ []) rest
 unfolding many_at
-next_step item shorter ts front left behind rest a zero enough so_far comma read = absurd (omega (arith, comma_shortens left behind comma))
-next_step item shorter ts front left behind rest a (suc n) enough so_far comma read = record {
+next_step item ts front left behind rest a zero enough so_far comma read fewer = absurd (omega (arith, comma_shortens left behind comma))
+next_step item ts front left behind rest a (suc n) enough so_far comma read fewer = record {
   fuel = n;
-  enough = omega (arith, comma_shortens left behind comma, shorter behind a rest read);
+  enough = omega (arith, comma_shortens left behind comma, fewer);
   so_far = sym (rw (comma, read) (regroup front a (many_at item n rest))) ∙ so_far;
 }
 
@@ -58,8 +58,8 @@ pub is_false : (P Q : Type 0) (b : Bool) → b ≡ false → MatchBool b P Q →
 is_false P Q true e h = absurd cc
 is_false P Q false e h = h
 
-pub goes_on : {A : Type 0} (item : Reader A) (shorter : Shortens item) (ts : List Token) (front : List A) (left behind rest : List Token) (a : A) → Progress item ts front left → mark_at m.Comma left ≡ Some behind → item behind ≡ Some (part a rest) → Progress item ts (front ++ a ∷ []) rest
-goes_on item shorter ts front left behind rest a p comma read = next_step item shorter ts front left behind rest a p.fuel p.enough p.so_far comma read
+pub goes_on : {A : Type 0} (item : Reader A) (ts : List Token) (front : List A) (left behind rest : List Token) (a : A) → Progress item ts front left → mark_at m.Comma left ≡ Some behind → item behind ≡ Some (part a rest) → length rest ≤ length behind → Progress item ts (front ++ a ∷ []) rest
+goes_on item ts front left behind rest a p comma read fewer = next_step item ts front left behind rest a p.fuel p.enough p.so_far comma read fewer
 
 no_item : {A : Type 0} (item : Reader A) (ts : List Token) (front : List A) (left behind : List Token) (fuel : ℕ) → length left ≤ fuel → with_front front (many_at item fuel left) ≡ all_at item ts → mark_at m.Comma left ≡ Some behind → item behind ≡ None → all_at item ts ≡ None
 unfolding many_at
@@ -130,5 +130,11 @@ all_takes spell Valid item takes ts all rest e = many_takes spell Valid item tak
 pub all_again : {A : Type 0} (spell : A → List Token) (Valid : A → Type 0) (item : Reader A) → Again spell Valid item → (all : List A) (rest : List Token) → AllValid Valid all → mark_at m.Comma rest ≡ None → all_at item (spell_more spell all ++ rest) ≡ Some (part all rest)
 all_again spell Valid item again all rest valid none = many_again spell Valid item again all rest _ (omega arith) valid none
 
-pub falls : {A : Type 0} (item : Reader A) (shorter : Shortens item) (left behind rest : List Token) (a : A) → mark_at m.Comma left ≡ Some behind → item behind ≡ Some (part a rest) → length rest < length left
-falls item shorter left behind rest a comma read = omega (arith, comma_shortens left behind comma, shorter behind a rest read)
+pub falls : (left behind rest : List Token) → mark_at m.Comma left ≡ Some behind → length rest ≤ length behind → length rest < length left
+falls left behind rest comma fewer = omega (arith, comma_shortens left behind comma, fewer)
+
+-- an item that was read leaves no more tokens than there were
+pub leaves_fewer : {A : Type 0} (item : Reader A) → Shortens item → (r : Result A Stop) (old new : List Token) → Gives (λ a. a) r new (item old) → OnOk r (length new ≤ length old)
+leaves_fewer item shorter (Ok a) old new e = shorter old a new e
+leaves_fewer item shorter (Err NoForm) old new e = tt
+leaves_fewer item shorter (Err Memory) old new e = tt

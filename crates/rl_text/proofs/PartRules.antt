@@ -10,14 +10,14 @@ use Rattle.rl_defs.specs.declared.bundle.Numbered.{Numbered}
 use Rattle.rl_defs.specs.Refusals.{Failing, IsFirst, Nowhere, Answers}
 use Rattle.rl_defs.specs.Tokens.{IsSkipped}
 use Rattle.rl_defs.specs.Parts.{Grammar, next_open, block_behind, forms_of, numbered, StandFor, IsNoForm, IsMisplaced, IsLeftOpen, FailsPart}
-use Rattle.rl_text.specs.Forms.{IsRefused}
+use Rattle.rl_text.specs.Forms.{IsRefused, OneForm, SkippedIsNoForm, OnePart}
 use Rattle.rl_text.specs.PartSteps.{Stands, Skips, Barred, TakesLine}
 use Rattle.rl_text.proofs.ListPlaces.{read_within, one_more}
 
 -- What a part needs of its forms: a text is one form at most, and a text without tokens is none.
 pub record AreForms {Form Block : Type 0} (G : Grammar Form Block) : Type 0 where
-  pub one : (a b : Form) (text : List ℕ) → G.is_line a text → G.is_line b text → a ≡ b
-  pub skipped : (text : List ℕ) (form : Form) → IsSkipped text → G.is_line form text → ⊥
+  pub one : OneForm G.is_line
+  pub skipped : SkippedIsNoForm G.is_line
 
 -- ---- what texts stand for
 
@@ -35,7 +35,7 @@ form_last {Form} G number place (t ∷ texts) lines text form (inr (g, more, is,
     inr (g, more ++ numbered place form ∷ [], ap (λ (y : List (Numbered Form)). y ++ numbered place form ∷ []) is, x, form_last G (number + 1) place texts more text form h f (omega (arith, e)))
 
 -- texts stand for one list of lines at most
-pub one_standing : {Form Block : Type 0} (G : Grammar Form Block) → AreForms G → (number : ℕ) (texts : List (List ℕ)) (a b : List (Numbered Form)) → StandFor G number texts a → StandFor G number texts b → a ≡ b
+pub one_standing : {Form Block : Type 0} (G : Grammar Form Block) → AreForms G → OnePart G
 one_standing G l number [] a b h g = h ∙ sym g
 one_standing G l number (t ∷ texts) a b (inl h) (inl g) = one_standing G l (number + 1) texts a b h.1 g.1
 one_standing G l number (t ∷ texts) a b (inl h) (inr (form, more, is, f, g)) = absurd (l.skipped t form h.0 f)

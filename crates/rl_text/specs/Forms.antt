@@ -1,9 +1,10 @@
--- What reading a line answers, whatever the forms of its part are.
+-- What reading a line answers, whatever the forms of its part are, and what holds of these forms.
 use Rattle.std.specs.Prelude.{◌≡◌, ℕ, List, Option, Some, None, Result, Ok, Err}
 use Rattle.rl_defs.specs.declared.LoadFault.{LoadFault}
 use Rattle.rl_defs.specs.declared.LoadFault.TheVariants.{Refused, Memory}
-use Rattle.rl_defs.specs.Refusals.{Failing}
+use Rattle.rl_defs.specs.declared.bundle.Numbered.{Numbered}
 use Rattle.rl_defs.specs.Tokens.{IsSkipped}
+use Rattle.rl_defs.specs.Parts.{Grammar, StandFor}
 
 -- rule 1 refuses the line, which has tokens or can have none, and is no form
 pub record IsRefused {Form : Type 0} (is_line : Form → List ℕ → Type 0) (text : List ℕ) : Type 0 where
@@ -17,6 +18,14 @@ Reads is_line number text (Ok (Some form)) = is_line form text
 Reads is_line number text (Err (Refused at)) = (at.line ≡ number) × (at.rule ≡ 1) × IsRefused is_line text
 Reads is_line number text (Err Memory) = Unit {0}
 
--- rule 1 of a line alone, which is to be a form
-abbrev pub FailsLine : {Form : Type 0} → (Form → List ℕ → Type 0) → ℕ → List ℕ → Failing
-FailsLine {Form} is_line number text line rule = (line ≡ number) × (rule ≡ 1) × ((form : Form) → is_line form text → ⊥)
+-- a text is one form at most: no two forms share a spelling
+abbrev pub OneForm : {Form : Type 0} → (Form → List ℕ → Type 0) → Type 0
+OneForm {Form} is_line = (a b : Form) (text : List ℕ) → is_line a text → is_line b text → a ≡ b
+
+-- a line without tokens is no form
+abbrev pub SkippedIsNoForm : {Form : Type 0} → (Form → List ℕ → Type 0) → Type 0
+SkippedIsNoForm {Form} is_line = (text : List ℕ) (form : Form) → IsSkipped text → is_line form text → ⊥
+
+-- texts stand for one list of lines at most
+abbrev pub OnePart : {Form Block : Type 0} → Grammar Form Block → Type 0
+OnePart {Form} G = (first : ℕ) (texts : List (List ℕ)) (a b : List (Numbered Form)) → StandFor G first texts a → StandFor G first texts b → a ≡ b

@@ -1,11 +1,16 @@
 -- Reading a part line by line, whatever its forms are.
-use Rattle.std.specs.Prelude.{◌≡◌, ℕ, ◌⊎◌, List, [], ◌∷◌, ◌++◌, Some, None, Result, Ok, Err}
+use Rattle.std.specs.Prelude.{◌≡◌, ℕ, ◌⊎◌, List, [], ◌∷◌, ◌++◌, Option, Some, None, Result, Ok, Err}
 use Rattle.rl_defs.specs.declared.LoadFault.{LoadFault}
 use Rattle.rl_defs.specs.declared.LoadFault.TheVariants.{Refused, Memory}
 use Rattle.rl_defs.specs.declared.bundle.Numbered.{Numbered}
 use Rattle.rl_defs.specs.Tokens.{IsSkipped}
 use Rattle.rl_defs.specs.Parts.{Grammar, numbered}
 use Rattle.rl_text.specs.Forms.{IsRefused}
+
+-- what code answers of where a line leads, if it may stand there: its block, which stands for a block of the grammar
+abbrev pub GivesBlock : {Block Code : Type 0} → (Code → Block) → Option Code → Option Block → Type 0
+GivesBlock block_of None next = next ≡ None
+GivesBlock block_of (Some block) next = next ≡ Some (block_of block)
 
 -- a line with tokens that may stand there
 pub record Stands {Form Block : Type 0} (G : Grammar Form Block) (number : ℕ) (text : List ℕ) (block next : Block) (old new : List (Numbered Form)) : Type 0 where

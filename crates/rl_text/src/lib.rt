@@ -5,6 +5,7 @@ pub mod cursor;
 pub mod decimal;
 pub mod lexeme;
 pub mod line;
+pub mod list;
 mod number;
 pub mod render;
 pub mod scan;

@@ -1,4 +1,4 @@
--- The rows of small tables.
+-- How large the rows of tables are, where the tables are small.
 use Rattle.std.proofs.Common.{◌≡◌, refl, subst, ℕ, ◌≤◌, List, length, Option, Some, None, slice_get, arith}
 use Rattle.std.specs.List.{All}
 use Rattle.std.proofs.lemmas.Option.{slice_get_within, get_or_from_slice_get}
