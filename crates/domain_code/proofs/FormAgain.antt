@@ -32,7 +32,8 @@ use Rattle.domain_code.specs.declared.verb.Verb.{Verb}
 use Rattle.domain_code.specs.declared.verb.Verb.TheVariants as verb
 use Rattle.domain_code.specs.Verbs.{verb_text, verb_of}
 use Rattle.domain_code.specs.Operands.{register_at}
-use Rattle.domain_code.specs.Lists.{list_at, some_at, arg_at, head_at}
+use Rattle.rl_text.specs.Many.{list_at, some_at}
+use Rattle.domain_code.specs.Lists.{arg_at, head_at}
 use Rattle.domain_code.specs.Instructions.{one_of, two_of, three_of, named_of, const_at, one_at, two_at, three_at, named_at, jmp_at, put_at, hang_at, unhang_at, ret_at, several_args_at, args_at, results_at, landing_at, behind_args_at, call_at}
 use Rattle.domain_code.specs.Forms.{pair_at, domain_at, slot_at, import_at, words_at, native_of, native_at, function_at, label_at, operands_at, by_word_at, behind_name_at, word_line_at, form_at, line_at}
 use Rattle.domain_code.proofs.VerbLaws.{verb_again}
