@@ -19,7 +19,8 @@ use Rattle.domain_code.specs.declared.verb.Verb.{Verb}
 use Rattle.domain_code.specs.declared.verb.Verb.TheVariants as verb
 use Rattle.domain_code.specs.declared.form.TwoNames.{TwoNames}
 use Rattle.domain_code.specs.Verbs.{verb_text, verb_of}
-use Rattle.domain_code.specs.Lists.{some_at, head_at}
+use Rattle.rl_text.specs.Many.{some_at}
+use Rattle.domain_code.specs.Lists.{head_at}
 use Rattle.domain_code.specs.Instructions.{const_at}
 use Rattle.domain_code.specs.Forms.{pair_at, domain_at, slot_at, import_at, words_at, native_of, named_native, native_at, function_at, label_at, trap_at, operands_at, by_word_at, behind_name_at, word_line_at, close_at, form_at, line_at}
 use Rattle.domain_code.proofs.VerbLaws.{verb_takes}

@@ -1,18 +1,19 @@
 -- Instructions: what is read is spelled so.
-use Rattle.std.proofs.Common.{◌≡◌, ℕ, inl, inr, List, [], ◌∷◌, ◌++◌, Some, refl, sym, ap, ◌∙◌, append_assoc}
+use Rattle.std.proofs.Common.{◌≡◌, ℕ, inl, inr, List, [], ◌∷◌, ◌++◌, Option, Some, None, refl, sym, ap, subst, ◌∙◌, append_assoc}
 use Rattle.std.specs.Prelude.{codes}
 use Rattle.rl_defs.specs.declared.code.Register.{Register}
 use Rattle.rl_defs.specs.declared.code.CallArg.{CallArg}
+use Rattle.rl_defs.specs.declared.code.Instr.{Instr}
 use Rattle.rl_defs.specs.declared.code.Instr.TheVariants as instr
 use Rattle.rl_defs.specs.declared.code.DomainLine.{DomainLine}
 use Rattle.rl_defs.specs.declared.code.DomainLine.TheVariants as line
 use Rattle.rl_defs.specs.declared.lexeme.Key.TheVariants as k
 use Rattle.rl_defs.specs.declared.lexeme.Mark.TheVariants as m
 use Rattle.rl_defs.specs.Tokens.{Token, Name, Reserved, Number, Sign}
-use Rattle.rl_defs.specs.DomainForms.{spell_register, spell_one, spell_some, two, three, spell_arg, spell_results, spell_instr, spell_line}
-use Rattle.rl_text.specs.Reading.{Reader, ◌>>=◌, name_at, mark_at}
-use Rattle.rl_text.specs.Many.{all_at}
-use Rattle.rl_text.proofs.PartLaws.{part, both_parts, bind_some, either_some, mark_takes, mark_step, word_step, name_step}
+use Rattle.rl_defs.specs.DomainForms.{spell_register, spell_one, spell_some, behind_comma, two, three, spell_arg, spell_results, spell_instr, spell_line}
+use Rattle.rl_text.specs.Reading.{Reader, ◌>>=◌, either, name_at, mark_at, word_at}
+use Rattle.rl_text.specs.Many.{all_at, list_at, some_at}
+use Rattle.rl_text.proofs.PartLaws.{Part, part, both_parts, bind_some, either_some, mark_takes, mark_step, word_step, name_step}
 use Rattle.domain_code.specs.declared.verb.One.{One}
 use Rattle.domain_code.specs.declared.verb.One.TheVariants as one
 use Rattle.domain_code.specs.declared.verb.Two.{Two}
@@ -24,7 +25,7 @@ use Rattle.domain_code.specs.declared.verb.Named.TheVariants as named
 use Rattle.domain_code.specs.declared.instr.Landing.{Landing}
 use Rattle.domain_code.specs.Verbs.{one_text, two_text, three_text, named_text}
 use Rattle.domain_code.specs.Operands.{register_at, next_register_at, next_name_at, next_number_at}
-use Rattle.domain_code.specs.Lists.{list_at, some_at, arg_at}
+use Rattle.domain_code.specs.Lists.{arg_at}
 use Rattle.domain_code.specs.Instructions.{one_of, two_of, three_of, named_of, const_at, one_at, two_at, three_at, named_at, jmp_at, put_at, hang_at, unhang_at, ret_at, several_args_at, args_at, results_at, landing_at, behind_args_at, call_at}
 use Rattle.domain_code.proofs.OperandLaws.{register_step, next_register_step, next_name_step, next_number_step, registers_take}
 use Rattle.domain_code.proofs.ListLaws.{list_takes, some_takes, arg_takes}

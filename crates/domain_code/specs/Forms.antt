@@ -14,7 +14,8 @@ use Rattle.domain_code.specs.declared.verb.Verb.{Verb}
 use Rattle.domain_code.specs.declared.verb.Verb.TheVariants as verb
 use Rattle.domain_code.specs.declared.form.TwoNames.{TwoNames}
 use Rattle.domain_code.specs.Verbs.{verb_of}
-use Rattle.domain_code.specs.Lists.{some_at, head_at}
+use Rattle.rl_text.specs.Many.{some_at}
+use Rattle.domain_code.specs.Lists.{head_at}
 use Rattle.domain_code.specs.Instructions.{const_at, one_at, two_at, three_at, named_at, jmp_at, put_at, hang_at, unhang_at, ret_at, call_at}
 
 -- `NAME: NAME`

@@ -18,7 +18,8 @@ use Rattle.domain_code.specs.declared.verb.Named.{Named}
 use Rattle.domain_code.specs.declared.verb.Named.TheVariants as named
 use Rattle.domain_code.specs.declared.instr.Landing.{Landing}
 use Rattle.domain_code.specs.Operands.{register_at, next_register_at, next_name_at, next_number_at}
-use Rattle.domain_code.specs.Lists.{list_at, some_at, arg_at}
+use Rattle.rl_text.specs.Many.{list_at, some_at}
+use Rattle.domain_code.specs.Lists.{arg_at}
 
 unfoldable pub const_at : Reader DomainLine
 const_at ts = do

@@ -1,5 +1,6 @@
--- The lists of parts in a line: one part or more, with commas between them.
-use Rattle.std.specs.Prelude.{ℕ, List, [], ◌∷◌, Some, if◌then◌else◌}
+-- What a line lists: registers, arguments of a call, and registers of a head.
+use Rattle.std.specs.Prelude.{ℕ, List, Option, None, Some}
+use Rattle.rl_defs.specs.declared.code.Register.{Register}
 use Rattle.rl_defs.specs.declared.code.CallArg.{CallArg}
 use Rattle.rl_defs.specs.declared.code.CallArg.TheVariants as arg
 use Rattle.rl_defs.specs.declared.code.HeadKind.{HeadKind}
@@ -7,20 +8,9 @@ use Rattle.rl_defs.specs.declared.code.HeadKind.TheVariants as head
 use Rattle.rl_defs.specs.declared.code.HeadItem.{HeadItem}
 use Rattle.rl_defs.specs.declared.lexeme.Key.TheVariants as k
 use Rattle.rl_defs.specs.declared.lexeme.Mark.TheVariants as m
-use Rattle.rl_text.specs.Reading.{Reader, ◌>>=◌, either, name_at, mark_at, key_at, none_left}
-use Rattle.rl_text.specs.Many.{all_at}
+use Rattle.rl_defs.specs.Tokens.{Token}
+use Rattle.rl_text.specs.Reading.{Reader, ◌>>=◌, either, name_at, mark_at, key_at}
 use Rattle.domain_code.specs.Operands.{register_at}
-
--- one part or more
-unfoldable pub list_at : {A : Type 0} → Reader A → Reader (List A)
-list_at item ts = do
-  first ← item ts
-  more ← all_at item first.1
-  Some (first.0 ∷ more.0, more.1)
-
--- any number of parts, up to the end of the line
-unfoldable pub some_at : {A : Type 0} → Reader A → Reader (List A)
-some_at item ts = if none_left ts then Some ([], ts) else list_at item ts
 
 -- behind a `&`
 abbrev pub lent_at : Reader CallArg

@@ -5,12 +5,13 @@ ghost use Rattle.domain_code.specs.Forms.{pair_at, domain_at, slot_at, import_at
 ghost use Rattle.rl_text.specs.Whole.{GivesWhole};
 
 use crate::instr;
-use crate::list::all_heads;
+use crate::list::OneHead;
 use crate::verb::{Verb, verb_of};
 use rl_defs::code::{DomainLine, Instr, Native};
 use rl_defs::lexeme::{Key, Mark};
 use rl_defs::name::Name;
 use rl_text::cursor::{Cursor, Stop};
+use rl_text::list::list_to_end;
 use std::alloc::Global;
 
 // Two names.
@@ -109,7 +110,7 @@ fn function(left: &mut Cursor<'_>) -> Result<DomainLine, Stop>
 fn label(alloc: Global, name: Name, left: &mut Cursor<'_>) -> Result<DomainLine, Stop>
     ensures { Gives (λ l. l) result left.new (label_at name left.old) }
 {
-    let heads = all_heads(alloc, left)?;
+    let heads = list_to_end::<OneHead>(alloc, left)?;
     Ok(DomainLine::Head(name, heads))
 }
 

@@ -1,11 +1,10 @@
 //! Instructions, behind their words.
 ghost use Rattle.std.specs.Prelude.{◌≡◌, ℕ, List, codes};
 ghost use Rattle.rl_text.specs.Reading.{Gives};
-ghost use Rattle.domain_code.specs.Lists.{list_at};
 ghost use Rattle.domain_code.specs.Operands.{register_at};
 ghost use Rattle.domain_code.specs.Instructions.{one_of, two_of, three_of, named_of, const_at, one_at, two_at, three_at, named_at, jmp_at, put_at, hang_at, unhang_at, ret_at, args_at, several_args_at, results_at, landing_at, behind_args_at, call_at};
 
-use crate::list::{all_registers, args, registers};
+use crate::list::{OneArg, OneRegister};
 use crate::operand::{next_name, next_number, next_register, register};
 use crate::verb::{Named, One, Three, Two};
 use rl_defs::code::{CallArg, DomainLine, Instr, Register};
@@ -13,6 +12,7 @@ use rl_defs::lexeme::Mark;
 use rl_defs::list::List;
 use rl_defs::name::Name;
 use rl_text::cursor::{Cursor, Stop};
+use rl_text::list::{list, list_to_end};
 use std::alloc::Global;
 
 // `const A, NUMBER`
@@ -155,7 +155,7 @@ pub(crate) fn unhang(left: &mut Cursor<'_>) -> Result<DomainLine, Stop>
 pub(crate) fn ret(alloc: Global, left: &mut Cursor<'_>) -> Result<DomainLine, Stop>
     ensures { Gives (λ l. l) result left.new (ret_at left.old) }
 {
-    let results = all_registers(alloc, left)?;
+    let results = list_to_end::<OneRegister>(alloc, left)?;
     Ok(DomainLine::Code(Instr::Ret(results)))
 }
 
@@ -163,7 +163,7 @@ pub(crate) fn ret(alloc: Global, left: &mut Cursor<'_>) -> Result<DomainLine, St
 fn several_args(alloc: Global, left: &mut Cursor<'_>) -> Result<List<CallArg>, Stop>
     ensures { Gives (λ l. l) result left.new (several_args_at left.old) }
 {
-    let all = args(alloc, left)?;
+    let all = list::<OneArg>(alloc, left)?;
     left.mark(Mark::CloseParen)?;
     Ok(all)
 }
@@ -185,7 +185,7 @@ fn results_of(alloc: Global, left: &mut Cursor<'_>) -> Result<List<Register>, St
     ensures { Gives (λ l. l) result left.new (results_at left.old) }
 {
     if left.skip_mark(Mark::Arrow) {
-        return registers(alloc, left);
+        return list::<OneRegister>(alloc, left);
     }
     Ok(List::new(alloc))
 }

@@ -1,56 +1,16 @@
-//! The lists of parts in a line: one part or more, with commas between them.
-ghost use Rattle.std.specs.Prelude.{◌≡◌, ℕ, List, length};
+//! What a line of the domain part lists: registers, arguments of a call, and registers of a head.
+ghost use Rattle.std.specs.Prelude.{◌≡◌, ℕ, ◌≤◌, List, length, OnOk};
 ghost use Rattle.rl_text.specs.Reading.{Gives};
-ghost use Rattle.rl_text.specs.Many.{all_at};
 ghost use Rattle.domain_code.specs.Operands.{register_at};
-ghost use Rattle.domain_code.specs.Lists.{list_at, some_at, arg_at, passed_at, lent_at, struct_at, lent_kind_at, kind_at, head_at};
+ghost use Rattle.domain_code.specs.Lists.{arg_at, passed_at, lent_at, struct_at, lent_kind_at, kind_at, head_at};
 
 use crate::operand::register;
 use rl_defs::code::{CallArg, HeadItem, HeadKind, Register};
 use rl_defs::lexeme::{Key, Mark};
-use rl_defs::list::List;
 use rl_defs::name::Name;
 use rl_text::cursor::{Cursor, Stop};
+use rl_text::list::Item;
 use std::alloc::Global;
-
-// Registers, each behind a comma.
-fn more_registers(alloc: Global, left: &mut Cursor<'_>) -> Result<Vec<Register>, Stop>
-    ensures { Gives (λ v. v.items) result left.new (all_at register_at left.old) }
-{
-    let mut all = Vec::new(alloc);
-    'registers: while left.skip_mark(Mark::Comma) {
-        let register = register(left)?;
-        match all.push(register) {
-            Ok(()) => {}
-            Err(_) => return Err(Stop::Memory),
-        }
-    }
-    Ok(all)
-}
-
-/// One register or more.
-#[tactic(auto, unfolding(crate::specs::Lists::list_at))]
-pub(crate) fn registers(alloc: Global, left: &mut Cursor<'_>) -> Result<List<Register>, Stop>
-    ensures { Gives (λ l. l) result left.new (list_at register_at left.old) }
-{
-    let first = register(left)?;
-    let mut all = more_registers(alloc, left)?;
-    match all.insert(0, first) {
-        Ok(()) => Ok(List::from_vec(all)),
-        Err(_) => Err(Stop::Memory),
-    }
-}
-
-/// Registers up to the end of the line, any number of them.
-#[tactic(auto, unfolding(crate::specs::Lists::some_at))]
-pub(crate) fn all_registers(alloc: Global, left: &mut Cursor<'_>) -> Result<List<Register>, Stop>
-    ensures { Gives (λ l. l) result left.new (some_at register_at left.old) }
-{
-    if left.is_empty() {
-        return Ok(List::new(alloc));
-    }
-    registers(alloc, left)
-}
 
 // `&rN` behind its mark, which lends the object.
 fn lent(left: &mut Cursor<'_>) -> Result<CallArg, Stop>
@@ -77,34 +37,6 @@ fn arg(left: &mut Cursor<'_>) -> Result<CallArg, Stop>
         return lent(left);
     }
     passed(left)
-}
-
-// Arguments, each behind a comma.
-fn more_args(alloc: Global, left: &mut Cursor<'_>) -> Result<Vec<CallArg>, Stop>
-    ensures { Gives (λ v. v.items) result left.new (all_at arg_at left.old) }
-{
-    let mut all = Vec::new(alloc);
-    'arguments: while left.skip_mark(Mark::Comma) {
-        let arg = arg(left)?;
-        match all.push(arg) {
-            Ok(()) => {}
-            Err(_) => return Err(Stop::Memory),
-        }
-    }
-    Ok(all)
-}
-
-/// One argument or more.
-#[tactic(auto, unfolding(crate::specs::Lists::list_at))]
-pub(crate) fn args(alloc: Global, left: &mut Cursor<'_>) -> Result<List<CallArg>, Stop>
-    ensures { Gives (λ l. l) result left.new (list_at arg_at left.old) }
-{
-    let first = arg(left)?;
-    let mut all = more_args(alloc, left)?;
-    match all.insert(0, first) {
-        Ok(()) => Ok(List::from_vec(all)),
-        Err(_) => Err(Stop::Memory),
-    }
 }
 
 // `<STRUCT>`, behind its `RRef`.
@@ -158,41 +90,50 @@ fn head(left: &mut Cursor<'_>) -> Result<HeadItem, Stop>
     Ok(HeadItem { register, kind })
 }
 
-// Registers of a head, each behind a comma.
-fn more_heads(alloc: Global, left: &mut Cursor<'_>) -> Result<Vec<HeadItem>, Stop>
-    ensures { Gives (λ v. v.items) result left.new (all_at head_at left.old) }
-{
-    let mut all = Vec::new(alloc);
-    'heads: while left.skip_mark(Mark::Comma) {
-        let HeadItem { register, kind } = head(left)?;
-        match all.push(HeadItem { register, kind }) {
-            Ok(()) => {}
-            Err(_) => return Err(Stop::Memory),
-        }
-    }
-    Ok(all)
-}
+/// A register.
+pub(crate) struct OneRegister;
 
-// One register of a head or more.
-#[tactic(auto, unfolding(crate::specs::Lists::list_at))]
-fn heads(alloc: Global, left: &mut Cursor<'_>) -> Result<List<HeadItem>, Stop>
-    ensures { Gives (λ l. l) result left.new (list_at head_at left.old) }
-{
-    let HeadItem { register, kind } = head(left)?;
-    let mut all = more_heads(alloc, left)?;
-    match all.insert(0, HeadItem { register, kind }) {
-        Ok(()) => Ok(List::from_vec(all)),
-        Err(_) => Err(Stop::Memory),
+impl Item for OneRegister {
+    type Part = Register;
+
+    ghost item_at = { register_at };
+
+    fn read(_alloc: Global, left: &mut Cursor<'_>) -> Result<Register, Stop>
+        ensures gives { Gives (λ r. r) result left.new (register_at left.old) }
+        ensures fewer { OnOk result (length left.new ≤ length left.old) }
+    {
+        register(left)
     }
 }
 
-/// The registers of a head up to the end of the line, any number of them.
-#[tactic(auto, unfolding(crate::specs::Lists::some_at))]
-pub(crate) fn all_heads(alloc: Global, left: &mut Cursor<'_>) -> Result<List<HeadItem>, Stop>
-    ensures { Gives (λ l. l) result left.new (some_at head_at left.old) }
-{
-    if left.is_empty() {
-        return Ok(List::new(alloc));
+/// An argument of a call.
+pub(crate) struct OneArg;
+
+impl Item for OneArg {
+    type Part = CallArg;
+
+    ghost item_at = { arg_at };
+
+    fn read(_alloc: Global, left: &mut Cursor<'_>) -> Result<CallArg, Stop>
+        ensures gives { Gives (λ a. a) result left.new (arg_at left.old) }
+        ensures fewer { OnOk result (length left.new ≤ length left.old) }
+    {
+        arg(left)
     }
-    heads(alloc, left)
+}
+
+/// A register of a head.
+pub(crate) struct OneHead;
+
+impl Item for OneHead {
+    type Part = HeadItem;
+
+    ghost item_at = { head_at };
+
+    fn read(_alloc: Global, left: &mut Cursor<'_>) -> Result<HeadItem, Stop>
+        ensures gives { Gives (λ h. h) result left.new (head_at left.old) }
+        ensures fewer { OnOk result (length left.new ≤ length left.old) }
+    {
+        head(left)
+    }
 }

@@ -5,13 +5,14 @@ ghost use Rattle.rl_text.specs.Many.{all_at};
 ghost use Rattle.idl_syntax.specs.Lines.{types_at, parts_at, one_at, out_at, rpc_at, plain_out_at, behind_arrow_at, result_at, head_at, struct_at, trait_at, behind_comma, field_at, attribute_at, receiver_at, method_at, open_at, form_at, line_at};
 ghost use Rattle.rl_text.specs.Whole.{GivesWhole};
 
-use crate::list::{params, types};
+use crate::list::{OneParam, OneType};
 use crate::types::whole_type;
 use rl_defs::idl::{IdlLine, ResultText, TypeText};
 use rl_defs::lexeme::{Key, Mark};
 use rl_defs::list::List;
 use rl_defs::name::Name;
 use rl_text::cursor::{Cursor, Stop};
+use rl_text::list::behind_commas;
 use std::alloc::Global;
 
 // Two types or more, behind their `(`.
@@ -20,7 +21,7 @@ fn several(alloc: Global, left: &mut Cursor<'_>) -> Result<List<TypeText>, Stop>
     ensures { Gives (λ l. l) result left.new (types_at left.old) }
 {
     let first = whole_type(alloc, left)?;
-    let mut all = types(alloc, left)?;
+    let mut all = behind_commas::<OneType>(alloc, left)?;
     left.mark(Mark::CloseParen)?;
     if all.is_empty() {
         return Err(Stop::NoForm);
@@ -147,7 +148,7 @@ fn method(alloc: Global, left: &mut Cursor<'_>) -> Result<IdlLine, Stop>
     ensures { Gives (λ l. l) result left.new (method_at left.old) }
 {
     let name = receiver(left)?;
-    let params = params(alloc, left)?;
+    let params = behind_commas::<OneParam>(alloc, left)?;
     left.mark(Mark::CloseParen)?;
     let outcome = result_of(alloc, left)?;
     left.mark(Mark::Semicolon)?;

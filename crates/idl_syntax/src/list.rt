@@ -1,13 +1,13 @@
-//! The lists of parts in a line.
-ghost use Rattle.std.specs.Prelude.{◌≡◌, ℕ, List, length};
+//! What a line of the interface part lists: parameters and types.
+ghost use Rattle.std.specs.Prelude.{◌≡◌, ℕ, ◌≤◌, List, length, OnOk};
 ghost use Rattle.rl_text.specs.Reading.{Gives};
-ghost use Rattle.rl_text.specs.Many.{all_at};
 ghost use Rattle.idl_syntax.specs.Lines.{param_at, whole_type_at};
 
 use crate::types::whole_type;
 use rl_defs::idl::{Param, TypeText};
 use rl_defs::lexeme::Mark;
 use rl_text::cursor::{Cursor, Stop};
+use rl_text::list::Item;
 use std::alloc::Global;
 
 // `NAME: TYPE`
@@ -21,32 +21,34 @@ fn param(alloc: Global, left: &mut Cursor<'_>) -> Result<Param, Stop>
     Ok(Param { name, ty })
 }
 
-/// The parameters at the front, each behind a comma.
-pub(crate) fn params(alloc: Global, left: &mut Cursor<'_>) -> Result<Vec<Param>, Stop>
-    ensures { Gives (λ v. v.items) result left.new (all_at param_at left.old) }
-{
-    let mut all = Vec::new(alloc);
-    'params: while left.skip_mark(Mark::Comma) {
-        let param = param(alloc, left)?;
-        match all.push(param) {
-            Ok(()) => {}
-            Err(_) => return Err(Stop::Memory),
-        }
+/// A parameter of a method.
+pub(crate) struct OneParam;
+
+impl Item for OneParam {
+    type Part = Param;
+
+    ghost item_at = { param_at };
+
+    fn read(alloc: Global, left: &mut Cursor<'_>) -> Result<Param, Stop>
+        ensures gives { Gives (λ p. p) result left.new (param_at left.old) }
+        ensures fewer { OnOk result (length left.new ≤ length left.old) }
+    {
+        param(alloc, left)
     }
-    Ok(all)
 }
 
-/// The types at the front, each behind a comma.
-pub(crate) fn types(alloc: Global, left: &mut Cursor<'_>) -> Result<Vec<TypeText>, Stop>
-    ensures { Gives (λ v. v.items) result left.new (all_at whole_type_at left.old) }
-{
-    let mut all = Vec::new(alloc);
-    'types: while left.skip_mark(Mark::Comma) {
-        let ty = whole_type(alloc, left)?;
-        match all.push(ty) {
-            Ok(()) => {}
-            Err(_) => return Err(Stop::Memory),
-        }
+/// A type.
+pub(crate) struct OneType;
+
+impl Item for OneType {
+    type Part = TypeText;
+
+    ghost item_at = { whole_type_at };
+
+    fn read(alloc: Global, left: &mut Cursor<'_>) -> Result<TypeText, Stop>
+        ensures gives { Gives (λ ty. ty) result left.new (whole_type_at left.old) }
+        ensures fewer { OnOk result (length left.new ≤ length left.old) }
+    {
+        whole_type(alloc, left)
     }
-    Ok(all)
 }
