@@ -1,7 +1,7 @@
 -- Where a frame goes behind an answer.
-use Rattle.std.proofs.Common.{◌≡◌, refl, sym, ◌∙◌, ap, subst, ℕ, ◌+◌, ◌<◌, ◌^◌, List, length, Option, Some, slice_get, arith}
+use Rattle.std.proofs.Common.{◌≡◌, refl, sym, ◌∙◌, ap, subst, ℕ, ◌+◌, Some, slice_get}
 use Rattle.std.specs.List.{slice_index_or}
-use Rattle.std.proofs.lemmas.Option.{slice_get_within, get_or_from_slice_get}
+use Rattle.std.proofs.lemmas.Option.{get_or_from_slice_get}
 use Rattle.rl_defs.specs.declared.bundle.Numbered.{Numbered}
 use Rattle.rl_defs.specs.declared.values.RpcCode.{RpcCode}
 use Rattle.rl_defs.specs.declared.frame.Answer.{Answer}
@@ -19,7 +19,6 @@ use Rattle.rl_defs.specs.CodeLaws.{StandsAt}
 use Rattle.rl_defs.proofs.CodeStands.{has_place, place_head, jumps_to}
 use Rattle.rl_defs.proofs.CodeAnswers.{failed_label}
 use Rattle.code_machine.specs.Fitting.{Awaits, IsHead}
-use Rattle.code_machine.proofs.Naming.{Named}
 
 pub code_form : (xs lines : Lines) (n : ℕ) (l : Numbered DomainLine) (number : ℕ) (i : Instr) → xs ≡ lines → slice_get lines n ≡ Some (record { line = number; form = line.Code i }) → (slice_index_or xs n l).form ≡ line.Code i
 code_form xs lines n l number i same here =

@@ -1,5 +1,5 @@
 -- Where a frame goes that fits.
-use Rattle.std.proofs.Common.{◌≡◌, refl, sym, ◌∙◌, ap, subst, ℕ, zero, suc, ◌+◌, ◌-◌, ◌<◌, ◌≤◌, Bool, true, false, List, [], ◌∷◌, length, drop, Option, Some, None, slice_get, is_some, arith, unwrap_or}
+use Rattle.std.proofs.Common.{◌≡◌, refl, sym, ◌∙◌, ap, subst, ℕ, zero, suc, ◌+◌, ◌-◌, ◌<◌, false, length, Option, Some, None, slice_get, is_some, arith}
 use Rattle.std.specs.List.{slice_index_or}
 use Rattle.std.proofs.lemmas.Option.{slice_get_past, slice_get_read}
 use Rattle.rl_defs.specs.declared.bundle.Numbered.{Numbered}
@@ -10,20 +10,18 @@ use Rattle.rl_defs.specs.declared.frame.Action.{Action}
 use Rattle.rl_defs.specs.declared.frame.Action.TheVariants as action
 use Rattle.rl_defs.specs.declared.code.Instr.{Instr}
 use Rattle.rl_defs.specs.declared.code.DomainLine.TheVariants as line
-use Rattle.rl_defs.specs.declared.tables.Kind.{Kind}
 use Rattle.rl_defs.specs.DomainValue.{Domain}
 use Rattle.rl_defs.specs.Sight.{Sight}
 use Rattle.rl_defs.specs.CodeNames.{cells_of}
-use Rattle.rl_defs.specs.CodeKinds.{kinds_at, at_label}
+use Rattle.rl_defs.specs.CodeKinds.{kinds_at}
 use Rattle.rl_defs.specs.CodeRules.{label_of, place_of_label}
-use Rattle.rl_defs.specs.Instructions.{Registers, Stand, Outcome, Works, Jumps, Would, Stuck, behind_heads, through, through_form, entered, entered_line, jumped, work, Settled, Before, go_on, settle, meaning}
-use Rattle.rl_defs.specs.CodeFits.{KeepsRules, Typing, Fits, FitsStand, FitsSight, is_number_cell}
-use Rattle.rl_defs.specs.CodeLaws.{StandsAt, ComesTo}
+use Rattle.rl_defs.specs.Instructions.{Registers, Stand, Outcome, Works, Jumps, Would, behind_heads, through, entered_line, jumped, work, Before, go_on, settle, meaning}
+use Rattle.rl_defs.specs.CodeFits.{KeepsRules, Typing, FitsStand, FitsSight, is_number_cell}
 use Rattle.rl_defs.proofs.Places.{drop_at}
 use Rattle.rl_defs.proofs.CodeSafe.{Safe, work_is, finds, safe_at, settles}
-use Rattle.rl_defs.proofs.CodeStands.{FitsCode, HeadAt, comes_to_code, stands_next, has_place, place_head, stands_jumped, jumps_to}
+use Rattle.rl_defs.proofs.CodeStands.{comes_to_code, stands_next, has_place, place_head, stands_jumped, jumps_to}
 use Rattle.rl_defs.proofs.SmallRows.{small_struct}
-use Rattle.code_machine.specs.Fitting.{Fitting, AtInstr, IsLine, IsNear, FitsLine, GoesToLabel}
+use Rattle.code_machine.specs.Fitting.{Fitting, AtInstr, IsNear, GoesToLabel}
 
 no_number : (o : Option ℕ) → is_some o ≡ false → o ≡ None
 no_number None e = refl

@@ -1,5 +1,5 @@
 -- What the row of a line names is what its instruction means.
-use Rattle.std.proofs.Common.{◌≡◌, refl, sym, ◌∙◌, ap, subst, ℕ, suc, ◌<◌, ◌≤◌, ◌^◌, ◌==◌, Bool, true, false, ◌&&◌, List, [], ◌∷◌, length, map, Option, Some, None, slice_get, is_some, arith, unwrap_or, nat_lt, true≢false}
+use Rattle.std.proofs.Common.{◌≡◌, refl, sym, ◌∙◌, ap, subst, ℕ, suc, ◌<◌, ◌≤◌, ◌^◌, ◌==◌, true, List, [], ◌∷◌, length, map, Option, Some, None, slice_get, is_some, arith, unwrap_or, nat_lt}
 use Rattle.std.specs.Prelude.{is_none}
 use Rattle.std.specs.List.{list_all}
 use Rattle.std.proofs.lemmas.Bool.{eqb-true}
@@ -15,13 +15,12 @@ use Rattle.rl_defs.specs.declared.code.Instr.{Instr}
 use Rattle.rl_defs.specs.declared.code.Instr.TheVariants as instr
 use Rattle.rl_defs.specs.declared.code.DomainLine.TheVariants as line
 use Rattle.rl_defs.specs.declared.tables.Kind.{Kind}
-use Rattle.rl_defs.specs.declared.tables.Kind.TheVariants as kind
 use Rattle.rl_defs.specs.declared.tables.MethodRow.{MethodRow}
 use Rattle.rl_defs.specs.declared.tables.Tables.{Tables}
 use Rattle.rl_defs.specs.DomainValue.{Domain}
 use Rattle.rl_defs.specs.Sight.{Sight}
 use Rattle.rl_defs.specs.CodeNames.{Function, function_at, cells_of, methods_of, method_number, row_at, params_of, results_of, method_of_function, method_at, domain_trait}
-use Rattle.rl_defs.specs.CodeKinds.{Kinds, kinds_at, kind_in, Owned, Target, read, read_of_arg, method_called, hung_in, hung_at, as_register}
+use Rattle.rl_defs.specs.CodeKinds.{Kinds, kinds_at, kind_in, Owned, Target, read_of_arg, method_called, hung_in, hung_at, as_register}
 use Rattle.rl_defs.specs.CodeRules.{meets, is_met, reads_are_met, operands_suit, object_struct, has_counts, results_suit, same_kind}
 use Rattle.rl_defs.specs.Instructions.{Registers, Works, with_value, with_number, value_in, number_in, object_in, target, bit, unless_trap, setting, cell_kind, slot_number, import_number, trait_of_kind, args_fit, given_by, values_fit, result_in, meaning}
 use Rattle.rl_defs.specs.CodeFits.{AreTablesSmall}

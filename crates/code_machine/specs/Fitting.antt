@@ -1,5 +1,5 @@
 -- What the calls ask of a frame.
-use Rattle.std.specs.Prelude.{◌≡◌, ◌⊎◌, ℕ, ◌≤◌, Bool, false, List, Option, Some, None, slice_get}
+use Rattle.std.specs.Prelude.{◌≡◌, ◌⊎◌, ℕ, ◌≤◌, false, List, Some, None, slice_get}
 use Rattle.rl_defs.specs.declared.values.Arg.{Arg}
 use Rattle.rl_defs.specs.declared.code.HeadItem.{HeadItem}
 use Rattle.rl_defs.specs.declared.code.Instr.{Instr}

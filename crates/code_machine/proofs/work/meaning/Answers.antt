@@ -1,4 +1,4 @@
-use Rattle.std.proofs.Common.{◌≡◌, ◌≤◌, List, length, map, slice_get, subst, sym}
+use Rattle.std.proofs.Common.{◌≤◌, List, length, map, slice_get, subst, sym}
 use Rattle.rl_defs.specs.declared.frame.Action.TheVariants as action
 use Rattle.rl_defs.specs.declared.values.Cause.TheVariants as cause
 use Rattle.rl_defs.specs.declared.code.CallArg.{CallArg}
@@ -7,7 +7,6 @@ use Rattle.rl_defs.specs.declared.tables.Tables.{Tables}
 use Rattle.rl_defs.specs.CodeNames.{methods_of, params_of, results_of}
 use Rattle.rl_defs.specs.Instructions.{value_in, target, unless_trap, args_fit, given_by, values_fit, result_in}
 use Rattle.code_machine.specs.Went.{Comes}
-use Rattle.rl_defs.specs.declared.code.Instr.TheVariants as instr
 use Rattle.code_machine.proofs.Naming.{at_line, means, has_comes, cap_comes, new_comes, take_comes, put_comes, set_comes, call_comes, call_few, ret_comes, ret_few, hang_near, unhang_near}
 use Rattle.code_machine.proofs.work.meaning.Goals as goal
 
