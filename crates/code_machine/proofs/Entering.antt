@@ -10,7 +10,7 @@ use Rattle.rl_defs.specs.Instructions.{Registers}
 use Rattle.rl_defs.specs.CodeFits.{KeepsRules, Typing, FitsStand}
 use Rattle.rl_defs.specs.LineRows.{entry_of, entry_at}
 use Rattle.rl_defs.specs.CodeLaws.{FitsArguments}
-use Rattle.rl_defs.proofs.SmallRows.{small_method}
+use Rattle.rl_defs.proofs.TableSizes.{small_method}
 use Rattle.rl_defs.proofs.CodeEntries.{as_many, entries_fit}
 
 -- a call has few arguments

@@ -20,7 +20,7 @@ use Rattle.rl_defs.specs.CodeFits.{KeepsRules, Typing, FitsStand, FitsSight, is_
 use Rattle.rl_defs.proofs.Places.{drop_at}
 use Rattle.rl_defs.proofs.CodeSafe.{Safe, work_is, finds, safe_at, settles}
 use Rattle.rl_defs.proofs.CodeStands.{comes_to_code, stands_next, has_place, place_head, stands_jumped, jumps_to}
-use Rattle.rl_defs.proofs.SmallRows.{small_struct}
+use Rattle.rl_defs.proofs.TableSizes.{small_struct}
 use Rattle.code_machine.specs.Fitting.{Fitting, AtInstr, IsNear, GoesToLabel}
 
 no_number : (o : Option ℕ) → is_some o ≡ false → o ≡ None

@@ -28,7 +28,7 @@ use Rattle.rl_defs.specs.CodeNames.{struct_number}
 use Rattle.rl_defs.specs.LineRows.{Names, number_of_function}
 use Rattle.rl_defs.proofs.CodeRegisters.{and_left, and_right}
 use Rattle.rl_defs.proofs.CodeStands.{keeps_at, KeptLine}
-use Rattle.rl_defs.proofs.SmallRows.{small_method, small_struct}
+use Rattle.rl_defs.proofs.TableSizes.{small_method, small_struct}
 use Rattle.code_machine.specs.declared.went.Went.{Went}
 use Rattle.code_machine.specs.Went.{Comes}
 use Rattle.code_machine.specs.Fitting.{IsLine}
