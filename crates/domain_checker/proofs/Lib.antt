@@ -1,0 +1,4 @@
+pub mod Declaring
+pub mod Looks
+pub mod Naming
+pub mod Registers
