@@ -1,3 +1,6 @@
 pub mod Numbering
 pub mod Scopes
+pub mod Knowing
 pub mod Lowest
+pub mod Shapes
+pub mod OneStruct

@@ -2,8 +2,15 @@
 //! section 3.1).
 #![tactic(auto)]
 
-pub mod declared;
-pub mod kinds;
-pub mod names;
-pub mod scope;
-pub mod tables;
+mod claims;
+mod declared;
+mod effects;
+mod here;
+mod jumps;
+mod kinds;
+mod moves;
+mod names;
+mod native;
+mod operands;
+mod scope;
+mod tables;

@@ -86,6 +86,13 @@ impl NamedTables {
         self.tables.share()
     }
 
+    /// The tables.
+    pub fn tables(&self) -> &Tables
+        ensures { result.now ≡ self.now }
+    {
+        self.tables.get()
+    }
+
     /// The number of the struct of this name. It is 0 where there is none.
     pub fn struct_number(&self, name: &Name) -> u32
         ensures { result ≡ struct_number self.now name.now }

@@ -1,0 +1,7 @@
+use Rattle.std.proofs.Common.{◌≡◌, drop, map, filter}
+use Rattle.rl_defs.specs.CodeKinds.{passed}
+use Rattle.rl_defs.specs.CodeRules.{owning, is_among, are_distinct, lent, spares}
+use Rattle.domain_checker.proofs.moves.is_lent.Given as goal
+
+abbrev pub invariant-each : goal.invariant-each
+invariant-each l = is_among l.register (lent (drop l.arg-index l.args)) ≡ is_among l.register (lent l.args)
