@@ -1,2 +1,3 @@
 pub mod Shapes
 pub mod OneStruct
+pub mod Heads
