@@ -4,3 +4,4 @@ pub mod SetLaws
 pub mod Passing
 pub mod Emptying
 pub mod Runs
+pub mod PoolLaws
