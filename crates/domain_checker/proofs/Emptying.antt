@@ -1,6 +1,6 @@
 -- The registers that are emptied on a way.
-use Rattle.std.proofs.Common.{◌≡◌, ◌≢◌, refl, ap, sym, ◌∙◌, ◌⊎◌, inl, inr, ℕ, zero, suc, ◌+◌, ◌-◌, ◌<◌, ◌≤◌, ◌==◌, nat_lt, ◌&&◌, ◌||◌, not, Bool, true, false, List, [], ◌∷◌, ◌++◌, length, drop, get_or, set, Option, None, Some, if◌then◌else◌, slice_range, arith, length-append, append_assoc, zero-add}
-use Rattle.std.proofs.lemmas.List.{ext_get_or, length-set, get_or-set_same, get_or-set_other, get_or_past, append-nil}
+use Rattle.std.proofs.Common.{◌≡◌, ◌≢◌, refl, ap, sym, ◌∙◌, ◌⊎◌, inl, inr, ℕ, zero, suc, ◌+◌, ◌<◌, ◌==◌, nat_lt, ◌&&◌, ◌||◌, not, Bool, true, false, List, [], ◌∷◌, ◌++◌, length, drop, get_or, set, Option, None, Some, if◌then◌else◌, slice_range, arith, length-append, append_assoc, zero-add}
+use Rattle.std.proofs.lemmas.List.{ext_get_or, length-set, get_or-set_other, append-nil}
 use Rattle.std.proofs.lemmas.List.Folds.{drop_split, list_any-append}
 use Rattle.std.proofs.Math.Seq.{drop-append_seam, drop-length}
 use Rattle.std.proofs.Math.Bool.{or-false, or-true, and-false}

@@ -1,9 +1,7 @@
 -- What was right of a pool of registers stays so as the pool grows.
-use Rattle.std.proofs.Common.{◌≡◌, ap, sym, subst, ◌∙◌, ℕ, ◌+◌, ◌-◌, ◌≤◌, List, ◌++◌, length, take, drop, Some, slice_get, slice_range, arith, length-append, append_assoc}
+use Rattle.std.proofs.Common.{◌≡◌, ap, sym, subst, ◌∙◌, ℕ, ◌+◌, ◌-◌, ◌≤◌, List, ◌++◌, length, take, drop, slice_range, arith, length-append, append_assoc}
 use Rattle.std.proofs.lemmas.List.{take-append-le, drop-append-le, length-drop}
 use Rattle.rl_defs.specs.declared.code.Register.{Register}
-use Rattle.rl_defs.specs.declared.code.Instr.{Instr}
-use Rattle.rl_defs.specs.declared.code.DomainLine.TheVariants as line
 use Rattle.rl_defs.specs.declared.checked.Way.{Way}
 use Rattle.rl_defs.specs.declared.checked.LineRow.{LineRow}
 use Rattle.rl_defs.specs.DomainValue.{Domain}
