@@ -4,3 +4,8 @@ pub mod Naming
 pub mod Registers
 pub mod ShapeLaws
 pub mod OneStructLaws
+pub mod SetLaws
+pub mod Passing
+pub mod Emptying
+pub mod Runs
+pub mod PoolLaws

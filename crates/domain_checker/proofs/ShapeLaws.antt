@@ -1,5 +1,5 @@
 -- Lists that are looked at side by side.
-use Rattle.std.proofs.Common.{◌≡◌, ◌+◌, ap, sym, ◌∙◌, Bool, false, ◌&&◌, List, [], ◌∷◌, length, refl, arith}
+use Rattle.std.proofs.Common.{◌≡◌, ap, ◌∙◌, false, ◌&&◌, List, [], ◌∷◌, length, refl, arith}
 use Rattle.std.specs.List.{list_all, zip}
 use Rattle.std.proofs.Math.Bool.{and-false}
 use Rattle.rl_defs.specs.declared.tables.Kind.{Kind}

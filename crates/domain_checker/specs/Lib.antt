@@ -4,3 +4,4 @@ pub mod Knowing
 pub mod Lowest
 pub mod Shapes
 pub mod OneStruct
+pub mod Heads

@@ -12,5 +12,7 @@ mod moves;
 mod names;
 mod native;
 mod operands;
+mod rules;
 mod scope;
 mod tables;
+mod ways;
