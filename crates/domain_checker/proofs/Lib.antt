@@ -1,3 +1,6 @@
+pub mod Stepping
+pub mod Bodies
+pub mod LowestRule
 pub mod Declaring
 pub mod Looks
 pub mod Naming
@@ -9,3 +12,7 @@ pub mod Passing
 pub mod Emptying
 pub mod Runs
 pub mod PoolLaws
+pub mod RowLaws
+pub mod Labels
+pub mod Scanning
+pub mod Entering

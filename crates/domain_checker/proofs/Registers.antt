@@ -1,6 +1,7 @@
 -- Kinds of registers.
 use Rattle.std.proofs.Common.{◌≡◌, ℕ, zero, suc, ◌+◌, ◌<◌, ◌≤◌, Bool, true, false, refl, sym, ap, ◌∙◌, List, [], ◌∷◌, length, drop, nat_le, arith}
 use Rattle.std.proofs.lemmas.List.{drop_all}
+use Rattle.std.proofs.lemmas.Bool.Decides.{nat_tests}
 use Rattle.rl_defs.specs.declared.code.Register.{Register}
 use Rattle.rl_defs.specs.declared.code.CallArg.{CallArg}
 use Rattle.rl_defs.specs.CodeRules.{args_suit, results_suit}
@@ -26,9 +27,11 @@ few_results kinds (l ∷ ls) (suc k) lt = few_results kinds ls k (omega arith)
 
 none_left : (kinds : Kinds) (rs : List Register) (k : ℕ) → nat_le (length rs) k ≡ results_suit kinds [] (drop k rs)
 none_left kinds [] zero = refl
-none_left kinds [] (suc k) = refl
-none_left kinds (r ∷ rs) zero = refl
-none_left kinds (r ∷ rs) (suc k) = none_left kinds rs k
+none_left kinds [] (suc k) = grind (arith, nat_tests)
+none_left kinds (r ∷ rs) zero = grind (arith, nat_tests)
+none_left kinds (r ∷ rs) (suc k) =
+    let step : nat_le (length (r ∷ rs)) (suc k) ≡ nat_le (length rs) k = grind (arith, nat_tests) in
+    step ∙ none_left kinds rs k
 
 -- as many registers as results, or more
 pub many_results : (kinds : Kinds) (listed : List Kind) (rs : List Register) (k : ℕ) → k ≡ length listed → nat_le (length rs) (length listed) ≡ results_suit kinds (drop k listed) (drop k rs)

@@ -5,3 +5,4 @@ pub mod Lowest
 pub mod Shapes
 pub mod OneStruct
 pub mod Heads
+pub mod Keeping

@@ -2,6 +2,7 @@
 //! section 3.1).
 #![tactic(auto)]
 
+pub mod checker;
 mod claims;
 mod declared;
 mod effects;
@@ -12,7 +13,9 @@ mod moves;
 mod names;
 mod native;
 mod operands;
+mod rows;
 mod rules;
+mod scan;
 mod scope;
 mod tables;
 mod ways;

@@ -1,18 +1,14 @@
 //! The traits that a native body and its import have to have.
-ghost use Rattle.std.specs.Prelude.{◌≡◌, ℕ, ◌&&◌, [], ◌∷◌, ◌++◌, List as Items, length, nat_eq, fold};
+ghost use Rattle.std.specs.Prelude.{◌≡◌, ℕ, ◌&&◌, [], ◌∷◌, ◌++◌, length, fold};
 ghost use Rattle.std.specs.List.{list_all, zip};
-ghost use Rattle.std.specs.Cmp.Lexicographic.{pointwise};
-ghost use Rattle.indexmap.specs.IndexMap.{get};
 ghost use Rattle.rl_defs.specs.DomainValue.{Domain};
-ghost use Rattle.rl_defs.specs.CodeNames as names;
-ghost use Rattle.rl_defs.specs.CodeNames.{cells_of, place_in};
+ghost use Rattle.rl_defs.specs.CodeNames.{cells_of};
 ghost use Rattle.rl_defs.specs.Words.{same_bytes};
 ghost use Rattle.rl_defs.specs.NativeShapes as natives;
-ghost use Rattle.rl_defs.specs.NativeShapes.{is_number, has_cells, serves, is_shape, are_shapes, same_mark, is_method, are_methods, same_role, put_where, are_one, structs_for, structs_in, own_methods, import_methods, lacks_import, has_other_shape, has_other_structs};
+ghost use Rattle.rl_defs.specs.NativeShapes.{is_number, has_cells, serves, is_shape, are_shapes, same_mark, is_method, are_methods, same_role, put_where, are_one, structs_for, structs_in, own_methods, import_methods, has_other_shape, has_other_structs};
 ghost use Rattle.domain_checker.specs.Shapes.{role_meant, shape_meant, shapes_meant, method_meant, methods_meant};
 ghost use Rattle.domain_checker.specs.OneStruct.{with_struct, with_all, is_one};
 
-use indexmap::IndexMap;
 use rl_defs::code::Native;
 use rl_defs::name::Name;
 use rl_defs::tables::{Kind, MethodRow, Tables, Width};
@@ -218,13 +214,6 @@ pub(crate) fn import_of(body: Native) -> Name
         Some(name) => name,
         None => unreachable!(),
     }
-}
-
-/// Whether a domain has no import that its native body calls. The places of its imports stand under their names.
-pub(crate) fn lacks_import(imports: &IndexMap<Name, u32>, body: Native) -> bool
-    ensures { (d : Domain) → ((name : Items ℕ) → get (pointwise nat_eq) imports.now name ≡ place_in name (names.imports d.lines)) → result ≡ lacks_import d body }
-{
-    imports.get(&import_of(body)).is_none()
 }
 
 fn is_number(width: Width, kind: &Kind) -> bool
