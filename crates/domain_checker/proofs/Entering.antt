@@ -1,5 +1,5 @@
 -- Where the functions for methods begin.
-use Rattle.std.proofs.Common.{◌≡◌, ℕ, ◌+◌, ◌<◌, ◌^◌, List, length, Option, Some, None, refl, sym, ap, subst, ◌∙◌, arith, map}
+use Rattle.std.proofs.Common.{◌≡◌, ℕ, ◌+◌, ◌<◌, ◌^◌, List, length, Option, Some, None, ap, subst, ◌∙◌, arith, map}
 use Rattle.std.specs.Prelude.{slice_get, unwrap_or}
 use Rattle.std.specs.Option.{option_map}
 use Rattle.std.specs.List.{position_or_len}
@@ -13,7 +13,7 @@ use Rattle.rl_defs.specs.Domains.{Lines, body_of_function, begins_function}
 use Rattle.rl_defs.specs.CodeNames.{methods_of, domain_trait}
 use Rattle.rl_defs.specs.Refusals.{Nowhere}
 use Rattle.rl_defs.specs.CodeRules.{FailsCode}
-use Rattle.rl_defs.specs.CodeFits.{AreTablesSmall, IsOneDomain, KeepsRules}
+use Rattle.rl_defs.specs.CodeFits.{AreTablesSmall, IsOneDomain}
 use Rattle.rl_defs.specs.LineRows.{entry_at, entry_of}
 use Rattle.rl_defs.specs.Checked.{IsChecked}
 use Rattle.domain_checker.specs.Numbering.{body_from}

@@ -1,10 +1,10 @@
 -- The lowest rule that a line breaks.
-use Rattle.std.proofs.Common.{◌≡◌, ℕ, ◌≤◌, Bool, true, false, not, ◌&&◌, ◌||◌, ◌==◌, List, [], ◌∷◌, Option, Some, None, refl, sym, subst, ◌∙◌, ap, arith, cond, eq-eqb, eqb-true}
+use Rattle.std.proofs.Common.{◌≡◌, ℕ, ◌≤◌, Bool, true, false, not, ◌&&◌, ◌||◌, ◌==◌, List, [], ◌∷◌, Option, Some, refl, sym, subst, ap, arith, cond, eq-eqb, eqb-true}
 use Rattle.std.specs.List.{list_any}
 use Rattle.rl_defs.specs.declared.code.DomainLine.{DomainLine}
 use Rattle.rl_defs.specs.DomainValue.{Domain}
 use Rattle.rl_defs.specs.CodeKinds.{kinds_at}
-use Rattle.rl_defs.specs.CodeRules.{Sentence, sentences, breaks}
+use Rattle.rl_defs.specs.CodeRules.{Sentence, breaks}
 use Rattle.domain_checker.specs.Lowest.{lowest, from_30, IsLowest}
 
 -- no rule is lower than one before it, from this one on

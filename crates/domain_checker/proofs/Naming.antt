@@ -1,14 +1,13 @@
 -- Names and their numbers, name by name.
-use Rattle.std.proofs.Common.{◌≡◌, ℕ, zero, suc, ◌+◌, ◌≤◌, Bool, true, false, List, [], ◌∷◌, ◌++◌, length, Option, Some, None, refl, sym, ap, subst, ◌∙◌, arith, cond, nat_eq, map, drop, length-append, append_assoc}
-use Rattle.std.specs.Prelude.{slice_get, is_some, unwrap_or, IsTrue}
-use Rattle.std.proofs.lemmas.List.{drop_all, append-nil}
+use Rattle.std.proofs.Common.{◌≡◌, ℕ, suc, ◌+◌, ◌≤◌, Bool, true, false, List, [], ◌∷◌, length, Option, Some, None, refl, sym, ap, subst, ◌∙◌, arith, cond, nat_eq, map, drop}
+use Rattle.std.specs.Prelude.{slice_get, is_some, IsTrue}
+use Rattle.std.proofs.lemmas.List.{drop_all}
 use Rattle.rl_defs.specs.Words.{is_name}
-use Rattle.rl_defs.specs.CodeNames.{Declared, type_of}
 use Rattle.std.specs.Option.{option_map}
 use Rattle.std.specs.Cmp.Lexicographic.{pointwise}
 use Rattle.rl_defs.specs.Interfaces.{place_of}
 use Rattle.rl_defs.proofs.Places.{drop_at}
-use Rattle.domain_checker.specs.Numbering.{or_else, noted, counted_from, found, declared_names, AreDeclared}
+use Rattle.domain_checker.specs.Numbering.{or_else, noted, counted_from, found}
 
 -- one more name was noted
 pub noted_or : (old new : Option ℕ) (same : Bool) (number : ℕ) (rest : Option ℕ) → new ≡ or_else old (cond same (Some number) None) → or_else old (cond same (Some number) rest) ≡ or_else new rest

@@ -1,5 +1,5 @@
 -- What a look-up of names says, name by name.
-use Rattle.std.specs.Prelude.{◌≡◌, ℕ, suc, ◌+◌, List, [], ◌∷◌, length, map, Option, Some, None, is_some, if◌then◌else◌, nat_eq, slice_get}
+use Rattle.std.specs.Prelude.{◌≡◌, ℕ, ◌+◌, List, [], ◌∷◌, length, map, Option, Some, None, is_some, if◌then◌else◌, nat_eq, slice_get}
 use Rattle.std.specs.Cmp.Lexicographic.{pointwise}
 use Rattle.rl_defs.specs.declared.code.DomainLine.{DomainLine}
 use Rattle.rl_defs.specs.declared.code.DomainLine.TheVariants as line

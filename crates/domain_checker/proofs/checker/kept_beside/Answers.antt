@@ -1,4 +1,4 @@
-use Rattle.std.proofs.Common.{◌≡◌, subst, length, Result}
+use Rattle.std.proofs.Common.{subst, length, Result}
 use Rattle.rl_defs.specs.declared.LoadFault.{LoadFault}
 use Rattle.rl_defs.specs.Refusals.{Answers}
 use Rattle.rl_defs.specs.CodeRules.{FailsCode}

@@ -1,4 +1,4 @@
-use Rattle.std.proofs.Common.{◌≡◌, ◌∙◌, ap, Option, ℕ}
+use Rattle.std.proofs.Common.{◌∙◌, ap, Option, ℕ}
 use Rattle.std.specs.Prelude.{is_some}
 use Rattle.domain_checker.proofs.Bodies.{body_is}
 use Rattle.domain_checker.proofs.claims.has_function.Goals as goal

@@ -1,4 +1,4 @@
-use Rattle.std.proofs.Common.{◌≡◌, sym, subst, [], false, nat_eq, rules}
+use Rattle.std.proofs.Common.{sym, subst, [], false, nat_eq, rules}
 use Rattle.std.specs.Cmp.Lexicographic.{pointwise}
 use Rattle.indexmap.specs.IndexMap.{get}
 use Rattle.rl_defs.specs.CodeKinds.{Kinds}

@@ -1,10 +1,6 @@
-use Rattle.std.proofs.Common.{◌≡◌, ℕ, ◌+◌, ◌≤◌, ◌<◌, List, Some, None, length, refl, sym, ap, ◌∙◌, arith, nat_eq, rules, drop}
-use Rattle.std.specs.Prelude.{slice_get}
+use Rattle.std.proofs.Common.{arith, nat_eq, rules}
 use Rattle.std.specs.Cmp.Lexicographic.{pointwise}
-use Rattle.std.proofs.lemmas.Option.{slice_get_within}
 use Rattle.indexmap.specs.IndexMap.{get}
-use Rattle.rl_defs.specs.DomainValue.{Domain}
-use Rattle.rl_defs.specs.CodeNames.{results_of, find_label, method_named, domain_trait}
 use Rattle.domain_checker.proofs.Stepping.{known_close}
 use Rattle.domain_checker.proofs.here.leave.Goals as goal
 

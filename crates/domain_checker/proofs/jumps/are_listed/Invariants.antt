@@ -1,5 +1,5 @@
-use Rattle.std.proofs.Common.{◌≡◌, drop, map, filter}
-use Rattle.std.specs.List.{list_all, list_any}
+use Rattle.std.proofs.Common.{◌≡◌, drop}
+use Rattle.std.specs.List.{list_all}
 use Rattle.rl_defs.specs.CodeKinds.{listed, kind_in}
 use Rattle.rl_defs.specs.CodeRules.{same_kind}
 use Rattle.domain_checker.proofs.jumps.are_listed.Given as goal

@@ -1,4 +1,4 @@
-use Rattle.std.proofs.Common.{◌≡◌, drop, map, filter}
+use Rattle.std.proofs.Common.{◌≡◌, drop, map}
 use Rattle.rl_defs.specs.CodeRules.{without}
 use Rattle.domain_checker.proofs.jumps.empty_listed.Given as goal
 

@@ -1,7 +1,5 @@
 use Rattle.std.proofs.Common.{◌≡◌, drop, []}
 use Rattle.std.proofs.lemmas.List.{drop_all}
-use Rattle.rl_defs.specs.declared.code.Register.{Register}
-use Rattle.rl_defs.specs.CodeKinds.{put_all, paired}
 use Rattle.domain_checker.proofs.Registers.{paired_none}
 use Rattle.domain_checker.proofs.kinds.put_pairs.Goals as goal
 

@@ -1,6 +1,5 @@
-use Rattle.std.proofs.Common.{◌≡◌, drop, map, filter}
-use Rattle.rl_defs.specs.CodeKinds.{passed}
-use Rattle.rl_defs.specs.CodeRules.{owning, is_among, are_distinct, lent, spares}
+use Rattle.std.proofs.Common.{◌≡◌, drop}
+use Rattle.rl_defs.specs.CodeRules.{is_among, lent}
 use Rattle.domain_checker.proofs.moves.is_lent.Given as goal
 
 abbrev pub invariant-each : goal.invariant-each

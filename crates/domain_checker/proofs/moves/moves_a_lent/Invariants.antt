@@ -1,7 +1,7 @@
-use Rattle.std.proofs.Common.{◌≡◌, drop, map, filter}
-use Rattle.std.specs.List.{list_all, list_any}
+use Rattle.std.proofs.Common.{◌≡◌, drop}
+use Rattle.std.specs.List.{list_any}
 use Rattle.rl_defs.specs.CodeKinds.{passed}
-use Rattle.rl_defs.specs.CodeRules.{owning, is_among, are_distinct, lent, spares}
+use Rattle.rl_defs.specs.CodeRules.{owning, is_among, lent}
 use Rattle.domain_checker.proofs.moves.moves_a_lent.Given as goal
 
 abbrev pub invariant-each : goal.invariant-each

@@ -1,7 +1,6 @@
-use Rattle.std.proofs.Common.{◌≡◌, drop, map, filter}
-use Rattle.std.specs.List.{list_all, list_any}
-use Rattle.rl_defs.specs.CodeKinds.{passed}
-use Rattle.rl_defs.specs.CodeRules.{owning, is_among, are_distinct, lent, spares}
+use Rattle.std.proofs.Common.{◌≡◌, drop}
+use Rattle.std.specs.List.{list_all}
+use Rattle.rl_defs.specs.CodeRules.{spares}
 use Rattle.domain_checker.proofs.moves.spares_all.Given as goal
 
 abbrev pub invariant-each : goal.invariant-each

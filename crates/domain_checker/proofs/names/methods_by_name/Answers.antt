@@ -1,10 +1,9 @@
-use Rattle.std.proofs.Common.{◌≡◌, ℕ, ◌≤◌, List, [], None, Some, map, length, nat_eq, refl, sym, ◌∙◌, arith, rules, slice_get}
+use Rattle.std.proofs.Common.{◌≡◌, Some, length, nat_eq, refl, arith, slice_get}
 use Rattle.std.specs.Cmp.Lexicographic.{pointwise}
 use Rattle.std.proofs.lemmas.Option.{slice_get_read}
 use Rattle.indexmap.specs.IndexMap.{get}
 use Rattle.rl_defs.specs.declared.tables.MethodRow.{MethodRow}
-use Rattle.rl_defs.specs.Interfaces.{place_of}
-use Rattle.domain_checker.proofs.Naming.{finds_none, finds_row, finds_end, still_none}
+use Rattle.domain_checker.proofs.Naming.{finds_row, finds_end}
 use Rattle.domain_checker.proofs.names.methods_by_name.Goals as goal
 
 pub methods-preserved : goal.methods-preserved

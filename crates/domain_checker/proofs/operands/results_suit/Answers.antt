@@ -1,6 +1,5 @@
-use Rattle.std.proofs.Common.{◌≡◌, ◌≤◌, drop, [], length, sym, ◌∙◌, ap, List, arith}
+use Rattle.std.proofs.Common.{◌≡◌, drop, [], sym, ◌∙◌, ap, List, arith}
 use Rattle.std.proofs.lemmas.List.{drop_all}
-use Rattle.rl_defs.specs.declared.tables.Kind.{Kind}
 use Rattle.rl_defs.specs.declared.code.Register.{Register}
 use Rattle.rl_defs.specs.CodeRules.{results_suit}
 use Rattle.domain_checker.proofs.Registers.{few_results, many_results}

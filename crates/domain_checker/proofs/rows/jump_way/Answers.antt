@@ -1,4 +1,4 @@
-use Rattle.std.proofs.Common.{◌≡◌, ℕ, subst, slice_range}
+use Rattle.std.proofs.Common.{ℕ, subst, slice_range}
 use Rattle.rl_defs.specs.LineRows.{Leads}
 use Rattle.domain_checker.proofs.RowLaws.{grows_none, one_some}
 use Rattle.domain_checker.proofs.rows.jump_way.Goals as goal

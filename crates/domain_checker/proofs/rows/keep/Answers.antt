@@ -1,4 +1,3 @@
-use Rattle.std.proofs.Common.{◌≡◌}
 use Rattle.domain_checker.proofs.RowLaws.{rows_more}
 use Rattle.domain_checker.proofs.rows.keep.Goals as goal
 

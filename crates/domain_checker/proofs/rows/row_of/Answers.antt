@@ -1,4 +1,4 @@
-use Rattle.std.proofs.Common.{◌≡◌, ℕ, ◌<◌, List, Option, Some, length, sym, ap, subst, ◌∙◌, slice_range, arith}
+use Rattle.std.proofs.Common.{◌<◌, length, sym, ap, subst, ◌∙◌, arith}
 use Rattle.std.specs.Prelude.{IfSome}
 use Rattle.rl_defs.specs.declared.code.DomainLine.{DomainLine}
 use Rattle.rl_defs.specs.Domains.{Lines}

@@ -1,4 +1,4 @@
-use Rattle.std.proofs.Common.{◌≡◌, ℕ, Option, ap, ◌∙◌}
+use Rattle.std.proofs.Common.{ap, ◌∙◌}
 use Rattle.rl_defs.specs.CodeKinds.{Kinds}
 use Rattle.domain_checker.specs.Lowest.{lowest, from_30}
 use Rattle.domain_checker.proofs.LowestRule.{lowest_rule}

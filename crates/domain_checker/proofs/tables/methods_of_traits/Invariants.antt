@@ -1,4 +1,4 @@
-use Rattle.std.proofs.Common.{◌≡◌, take, nat_eq}
+use Rattle.std.proofs.Common.{take, nat_eq}
 use Rattle.std.specs.Cmp.Lexicographic.{pointwise}
 use Rattle.indexmap.specs.IndexMap.{get}
 use Rattle.domain_checker.specs.Numbering.{AreLooks}

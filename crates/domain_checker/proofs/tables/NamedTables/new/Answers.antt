@@ -1,4 +1,3 @@
-use Rattle.std.proofs.Common.{◌≡◌}
 use Rattle.domain_checker.proofs.Looks.{few_methods}
 use Rattle.domain_checker.proofs.tables.NamedTables.new.Goals as goal
 
