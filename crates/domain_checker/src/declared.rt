@@ -1,0 +1,153 @@
+//! What the lines of a domain declare.
+ghost use Rattle.std.specs.Prelude.{◌≡◌, ℕ, ◌+◌, ◌^◌, ◌<◌, ◌≤◌, List, [], ◌∷◌, ◌++◌, length, drop, None, nat_eq, is_some, unwrap_or, OnOk, IfOk};
+ghost use Rattle.std.specs.Cmp.Lexicographic.{pointwise};
+ghost use Rattle.indexmap.specs.IndexMap.{get};
+ghost use Rattle.rl_defs.specs.Domains.{trait_name, is_native, names_native};
+ghost use Rattle.rl_defs.specs.CodeNames.{slots, imports, struct_number, trait_number, has_words, declares_words, find_label};
+ghost use Rattle.domain_checker.specs.Numbering.{noted, body_from, AreDeclared};
+
+use crate::names::{NameTable, note};
+use crate::tables::NamedTables;
+use indexmap::IndexMap;
+use rl_defs::Memory;
+use rl_defs::bundle::Numbered;
+use rl_defs::code::DomainLine;
+use rl_defs::list::List;
+use rl_defs::name::Name;
+use std::alloc::Global;
+
+/// Names that a domain declares: the place of each among its kind, and the number of the struct or trait at each place.
+#[derive(Drop)]
+pub struct Declarations {
+    pub places: NameTable,
+    pub types: List<u32>,
+}
+
+fn nothing(alloc: Global) -> Declarations
+    ensures places { (q : List ℕ) → get (pointwise nat_eq) result.places q ≡ None }
+    ensures types { result.types ≡ [] }
+{
+    Declarations {
+        places: IndexMap::new(alloc),
+        types: List::new(alloc),
+    }
+}
+
+fn declare(declared: &mut Declarations, name: &Name, number: u32) -> Result<(), Memory>
+    requires { length declared.old.types < 2 ^ 32 }
+    ensures places { OnOk result ((q : List ℕ) → get (pointwise nat_eq) declared.new.places q ≡ noted (get (pointwise nat_eq) declared.old.places) name.now (length declared.old.types) q) }
+    ensures types { OnOk result (declared.new.types ≡ declared.old.types ++ number ∷ []) }
+{
+    let place = declared.types.len() as u32;
+    note(&mut declared.places, name, place)?;
+    declared.types.push(number)
+}
+
+/// The slots of a domain.
+pub fn slots_of(
+    alloc: Global,
+    tables: &NamedTables,
+    lines: &[Numbered<DomainLine>],
+) -> Result<Declarations, Memory>
+    requires { length lines.now < 2 ^ 31 }
+    ensures { IfOk result (λ d. AreDeclared (get (pointwise nat_eq) d.places) d.types (struct_number tables.now) (slots lines.now)) }
+{
+    let mut declared = nothing(alloc);
+    'lines: for line in lines {
+        if let DomainLine::Slot(name, ty) = &line.form {
+            declare(&mut declared, name, tables.struct_number(ty))?;
+        }
+    }
+    Ok(declared)
+}
+
+/// The imports of a domain.
+pub fn imports_of(
+    alloc: Global,
+    tables: &NamedTables,
+    lines: &[Numbered<DomainLine>],
+) -> Result<Declarations, Memory>
+    requires { length lines.now < 2 ^ 31 }
+    ensures { IfOk result (λ d. AreDeclared (get (pointwise nat_eq) d.places) d.types (trait_number tables.now) (imports lines.now)) }
+{
+    let mut declared = nothing(alloc);
+    'lines: for line in lines {
+        if let DomainLine::Import(name, has) = &line.form {
+            declare(&mut declared, name, tables.trait_number(has))?;
+        }
+    }
+    Ok(declared)
+}
+
+/// Where the bodies of the functions begin, by their names.
+pub fn bodies_of(alloc: Global, lines: &[Numbered<DomainLine>]) -> Result<NameTable, Memory>
+    requires { length lines.now < 2 ^ 31 }
+    ensures { IfOk result (λ t. (q : List ℕ) → get (pointwise nat_eq) t q ≡ body_from q lines.now 0) }
+{
+    let mut bodies = IndexMap::new(alloc);
+    'lines: for (place, line) in lines.iter().enumerate() {
+        if let DomainLine::Function(name) = &line.form {
+            note(&mut bodies, name, place as u32 + 1)?;
+        }
+    }
+    Ok(bodies)
+}
+
+/// The places of the labels of the function whose body begins at a place.
+pub fn labels_from(
+    alloc: Global,
+    lines: &[Numbered<DomainLine>],
+    first: usize,
+) -> Result<NameTable, Memory>
+    requires short { length lines.now < 2 ^ 31 }
+    requires within { first ≤ length lines.now }
+    ensures { IfOk result (λ t. (q : List ℕ) → get (pointwise nat_eq) t q ≡ find_label q (drop first lines.now) first) }
+{
+    let mut labels = IndexMap::new(alloc);
+    'lines: for place in first..lines.len() {
+        match &lines[place].form {
+            DomainLine::Close => return Ok(labels),
+            DomainLine::Head(name, _) => note(&mut labels, name, place as u32)?,
+            _ => {}
+        }
+    }
+    Ok(labels)
+}
+
+/// The number of the trait of a domain.
+pub fn trait_of(tables: &NamedTables, lines: &[Numbered<DomainLine>]) -> u32
+    ensures { result ≡ trait_number tables.now (trait_name lines.now) }
+{
+    'lines: for line in lines {
+        if let DomainLine::Domain(_, has) = &line.form {
+            return tables.trait_number(has);
+        }
+    }
+    tables.number_of_none()
+}
+
+fn names_native(form: &DomainLine) -> bool
+    ensures { result ≡ names_native form.now }
+{
+    matches!(form, DomainLine::Native(_))
+}
+
+/// Whether a domain has a native body.
+pub fn is_native(lines: &[Numbered<DomainLine>]) -> bool
+    ensures { result ≡ is_native lines.now }
+{
+    lines.iter().any(|line| names_native(&line.form))
+}
+
+fn declares_words(form: &DomainLine) -> bool
+    ensures { result ≡ declares_words form.now }
+{
+    matches!(form, DomainLine::Words(_))
+}
+
+/// Whether a domain has a `words` line.
+pub fn has_words(lines: &[Numbered<DomainLine>]) -> bool
+    ensures { result ≡ has_words lines.now }
+{
+    lines.iter().any(|line| declares_words(&line.form))
+}

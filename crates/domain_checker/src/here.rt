@@ -1,0 +1,171 @@
+//! What is known before a line.
+ghost use Rattle.std.specs.Prelude.{◌≡◌, ◌+◌, ◌≤◌, ◌<◌, Some, length, slice_get, nat_eq, IfOk, IfSome};
+ghost use Rattle.std.specs.Cmp.Lexicographic.{pointwise};
+ghost use Rattle.indexmap.specs.IndexMap.{get};
+ghost use Rattle.rl_defs.specs.declared.code.DomainLine.TheVariants as Form;
+ghost use Rattle.rl_defs.specs.CodeNames.{label_at};
+ghost use Rattle.rl_defs.specs.CodeRules.{label_of, place_of_label};
+ghost use Rattle.rl_defs.specs.Instructions.{label_of_form};
+ghost use Rattle.domain_checker.specs.Knowing.{Known};
+
+use crate::kinds::Kinds;
+use crate::names::NameTable;
+use crate::scope::Scope;
+use crate::declared::labels_from;
+use crate::effects::{kinds_behind, results_of};
+use crate::jumps::goes_on;
+use crate::kinds::no_kinds;
+use indexmap::IndexMap;
+use rl_defs::Memory;
+use rl_defs::bundle::Numbered;
+use rl_defs::code::{DomainLine, Instr};
+use rl_defs::name::Name;
+use rl_defs::tables::Kind;
+use std::alloc::Global;
+
+/// A place among the lines of a domain, and what is known before the line there.
+#[derive(Drop)]
+pub struct Here<'a> {
+    pub scope: &'a Scope<'a>,
+    pub place: usize,
+    /// What the registers hold.
+    pub kinds: Kinds,
+    /// Whether control comes to the line from the line before it.
+    pub reached: bool,
+    /// Whether the line is in a function.
+    pub inside: bool,
+    /// The results of the function's method.
+    pub results: &'a [Kind],
+    /// The places of the function's labels.
+    pub labels: NameTable,
+    ghost known: { Known scope.now place kinds reached inside results.now (get (pointwise nat_eq) labels) },
+}
+
+// The label that an instruction may go to.
+fn label_of(instr: &Instr) -> Option<Name>
+    ensures { result ≡ label_of instr.now }
+{
+    match instr {
+        Instr::Jmp(label) => Some(*label),
+        Instr::Jz(_, label) => Some(*label),
+        Instr::Call { label, .. } => Some(*label),
+        _ => None,
+    }
+}
+
+// The label that a line may go to.
+fn label_of_form(form: &DomainLine) -> Option<Name>
+    ensures { result ≡ label_of_form form.now }
+{
+    match form {
+        DomainLine::Code(instr) => label_of(instr),
+        _ => None,
+    }
+}
+
+// The place of a label of the function.
+fn label_place(here: &Here, label: &Name) -> Option<u32>
+    ensures { result ≡ label_at here.now.scope.now.lines here.now.place label.now }
+{
+    here.labels.get(label).copied()
+}
+
+/// The place of the label that a line may go to.
+pub fn target(here: &Here, form: &DomainLine) -> Option<u32>
+    ensures value { result ≡ place_of_label here.now.scope.now here.now.place (label_of_form form.now) }
+    ensures within { IfSome result (λ p. p < length here.now.scope.now.lines) }
+{
+    match label_of_form(form) {
+        Some(label) => label_place(here, &label),
+        None => None,
+    }
+}
+
+/// The first line of a domain, before which nothing is known.
+pub fn first<'a>(alloc: Global, scope: &'a Scope<'a>) -> Here<'a>
+    ensures scope { result.scope.now ≡ scope.now }
+    ensures place { result.place ≡ 0 }
+{
+    let _ = scope.lines();
+    Here {
+        scope,
+        place: 0,
+        kinds: no_kinds(),
+        reached: false,
+        inside: false,
+        results: &[],
+        labels: IndexMap::new(alloc),
+    }
+}
+
+// The first line of a function.
+fn enter<'a>(
+    alloc: Global,
+    here: &Here<'a>,
+    line: &Numbered<DomainLine>,
+    name: &Name,
+) -> Result<Here<'a>, Memory>
+    requires here { slice_get here.now.scope.now.lines here.now.place ≡ Some line.now }
+    requires name { line.now.form ≡ Form.Function name.now }
+    ensures scope { IfOk result (λ next. next.scope.now ≡ here.now.scope.now) }
+    ensures place { IfOk result (λ next. next.place ≡ here.now.place + 1) }
+{
+    let scope = here.scope;
+    let place = here.place + 1;
+    let method = scope
+        .tables()
+        .method_named(scope.domain_trait(), name);
+    let labels = labels_from(alloc, scope.lines(), place)?;
+    Ok(Here {
+        scope,
+        place,
+        kinds: kinds_behind(scope, &here.kinds, &line.form),
+        reached: goes_on(&line.form),
+        inside: true,
+        results: results_of(method),
+        labels,
+    })
+}
+
+// The line behind a `}`.
+fn leave<'a>(alloc: Global, here: &Here<'a>, line: &Numbered<DomainLine>) -> Here<'a>
+    requires here { slice_get here.now.scope.now.lines here.now.place ≡ Some line.now }
+    requires close { line.now.form ≡ Form.Close }
+    ensures scope { result.scope.now ≡ here.now.scope.now }
+    ensures place { result.place ≡ here.now.place + 1 }
+{
+    Here {
+        scope: here.scope,
+        place: here.place + 1,
+        kinds: kinds_behind(here.scope, &here.kinds, &line.form),
+        reached: goes_on(&line.form),
+        inside: false,
+        results: &[],
+        labels: IndexMap::new(alloc),
+    }
+}
+
+/// The next line.
+pub fn next<'a>(
+    alloc: Global,
+    here: Here<'a>,
+    line: &Numbered<DomainLine>,
+) -> Result<Here<'a>, Memory>
+    requires { slice_get here.scope.now.lines here.place ≡ Some line.now }
+    ensures scope { IfOk result (λ next. next.scope.now ≡ here.entry.scope.now) }
+    ensures place { IfOk result (λ next. next.place ≡ here.entry.place + 1) }
+{
+    match &line.form {
+        DomainLine::Function(name) => enter(alloc, &here, line, name),
+        DomainLine::Close => Ok(leave(alloc, &here, line)),
+        _ => Ok(Here {
+            scope: here.scope,
+            place: here.place + 1,
+            kinds: kinds_behind(here.scope, &here.kinds, &line.form),
+            reached: goes_on(&line.form),
+            inside: here.inside,
+            results: here.results,
+            labels: here.labels,
+        }),
+    }
+}

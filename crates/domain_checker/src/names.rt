@@ -1,0 +1,76 @@
+//! Numbers by names.
+ghost use Rattle.std.specs.Prelude.{◌≡◌, ℕ, ◌^◌, ◌<◌, ◌≤◌, List, [], None, map, length, drop, nat_eq, IsTrue, OnOk, IfOk};
+ghost use Rattle.std.specs.Cmp.Lexicographic.{pointwise};
+ghost use Rattle.indexmap.specs.IndexMap.{get};
+ghost use Rattle.rl_defs.specs.Words.{is_name};
+ghost use Rattle.rl_defs.specs.Interfaces.{place_of};
+ghost use Rattle.domain_checker.specs.Numbering.{noted};
+
+use indexmap::IndexMap;
+use rl_defs::Memory;
+use rl_defs::name::Name;
+use rl_defs::tables::{MethodRow, StructRow, TraitRow};
+use std::alloc::Global;
+
+/// Numbers by names.
+pub type NameTable = IndexMap<Name, u32>;
+
+/// Notes a name with its number, unless it is there.
+pub fn note(table: &mut NameTable, name: &Name, number: u32) -> Result<(), Memory>
+    ensures noted { OnOk result ((q : List ℕ) → get (pointwise nat_eq) table.new q ≡ noted (get (pointwise nat_eq) table.old) name.now number q) }
+{
+    if table.get(name).is_some() {
+        return Ok(());
+    }
+    match table.insert(*name, number) {
+        Ok(_) => Ok(()),
+        Err(_) => Err(Memory),
+    }
+}
+
+// The same of a name that isn't empty.
+fn note_named(table: &mut NameTable, name: &Name, number: u32) -> Result<(), Memory>
+    ensures noted { OnOk result ((q : List ℕ) → get (pointwise nat_eq) table.new q ≡ noted (get (pointwise nat_eq) table.old) name.now number q) }
+    ensures named { IsTrue (is_name name.now) }
+{
+    let _ = name.bytes();
+    note(table, name, number)
+}
+
+/// The structs by their names. No name is empty.
+pub fn structs_by_name(alloc: Global, structs: &[StructRow]) -> Result<NameTable, Memory>
+    requires { length structs.now < 2 ^ 32 }
+    ensures found { IfOk result (λ t. (q : List ℕ) → get (pointwise nat_eq) t q ≡ place_of q (map (λ s. s.name) structs.now)) }
+    ensures named { IfOk result (λ _. place_of [] (map (λ s. s.name) structs.now) ≡ None) }
+{
+    let mut table = IndexMap::new(alloc);
+    'structs: for (number, row) in structs.iter().enumerate() {
+        note_named(&mut table, &row.name, number as u32)?;
+    }
+    Ok(table)
+}
+
+/// The traits by their names. No name is empty.
+pub fn traits_by_name(alloc: Global, traits: &[TraitRow]) -> Result<NameTable, Memory>
+    requires { length traits.now < 2 ^ 32 }
+    ensures found { IfOk result (λ t. (q : List ℕ) → get (pointwise nat_eq) t q ≡ place_of q (map (λ s. s.name) traits.now)) }
+    ensures named { IfOk result (λ _. place_of [] (map (λ s. s.name) traits.now) ≡ None) }
+{
+    let mut table = IndexMap::new(alloc);
+    'traits: for (number, row) in traits.iter().enumerate() {
+        note_named(&mut table, &row.name, number as u32)?;
+    }
+    Ok(table)
+}
+
+/// The methods of a trait by their names.
+pub fn methods_by_name(alloc: Global, methods: &[MethodRow]) -> Result<NameTable, Memory>
+    requires { length methods.now < 2 ^ 32 }
+    ensures { IfOk result (λ t. (q : List ℕ) → get (pointwise nat_eq) t q ≡ place_of q (map (λ m. m.name) methods.now)) }
+{
+    let mut table = IndexMap::new(alloc);
+    'methods: for (number, row) in methods.iter().enumerate() {
+        note(&mut table, &row.name, number as u32)?;
+    }
+    Ok(table)
+}

@@ -1,0 +1,49 @@
+//! All lines of a domain.
+ghost use Rattle.std.specs.Prelude.{◌≡◌, ℕ, length};
+ghost use Rattle.rl_defs.specs.declared.LoadFault.TheVariants.{Refused};
+ghost use Rattle.rl_defs.specs.Refusals.{Answers};
+ghost use Rattle.rl_defs.specs.CodeRules.{FailsCode};
+ghost use Rattle.rl_defs.specs.CodeFits.{LinesRise};
+ghost use Rattle.domain_checker.specs.Keeping.{AreRows};
+
+use crate::here::{first, next};
+use crate::rows::{Kept, keep};
+use crate::rules::rule_of;
+use crate::scope::Scope;
+use crate::ways::Ways;
+use rl_defs::{LoadFault, Refusal};
+use std::alloc::Global;
+
+fn refused(line: u32, rule: u8) -> LoadFault
+    ensures { result ≡ Refused (record { line = line; rule = rule }) }
+{
+    LoadFault::Refused(Refusal { line, rule })
+}
+
+/// What is kept beside the lines of a domain, or the first line that a rule refuses, with the lowest rule there.
+pub fn scan(alloc: Global, scope: &Scope, ways: &Ways) -> Result<Kept, LoadFault>
+    requires lines { ways.now.lines.now ≡ scope.now.lines }
+    requires rises { LinesRise scope.now.lines }
+    ensures { Answers (FailsCode scope.now) (λ kept. AreRows scope.now kept.emptied.items kept.rows.items (length scope.now.lines)) result }
+{
+    let lines = scope.lines();
+    let mut kept = Kept {
+        rows: Vec::new(alloc),
+        emptied: Vec::new(alloc),
+    };
+    let mut here = first(alloc, scope);
+    'lines: for place in 0..lines.len() {
+        let line = &lines[place];
+        if let Some(rule) = rule_of(&here, &line.form) {
+            return Err(refused(line.line, rule));
+        }
+        let Ok(_) = keep(&mut kept, ways, &here, line) else {
+            return Err(LoadFault::Memory);
+        };
+        let Ok(there) = next(alloc, here, line) else {
+            return Err(LoadFault::Memory);
+        };
+        here = there;
+    }
+    Ok(kept)
+}
