@@ -29,9 +29,9 @@ entry_is q lines past is =
 begins_at : (d : Domain) (entries : List ℕ) → entries ≡ map (λ m. body_of_function d.lines m.name) (methods_of d.tables (domain_trait d)) → (m place : ℕ) → entry_at d m ≡ Some place → slice_get entries m ≡ Some place
 begins_at d entries is m place e =
     ap (λ es. slice_get es m) is ∙ slice_get-map (λ (r : MethodRow). body_of_function d.lines r.name) (methods_of d.tables (domain_trait d)) m ∙ of (slice_get (methods_of d.tables (domain_trait d)) m) e where
-  of : (o : Option MethodRow) → entry_of d o ≡ Some place → option_map (λ (r : MethodRow). body_of_function d.lines r.name) o ≡ Some place
-  of None f = absurd cc
-  of (Some r) f = f
+      of : (o : Option MethodRow) → entry_of d o ≡ Some place → option_map (λ (r : MethodRow). body_of_function d.lines r.name) o ≡ Some place
+      of None f = absurd cc
+      of (Some r) f = f
 
 -- what is kept beside the lines of a domain that keeps the rules
 pub is_checked : (d : Domain) (rows : List LineRow) (pool : List Register) (entries : List ℕ) → length d.lines < 2 ^ 31 → AreTablesSmall d.tables → IsOneDomain d.lines → Nowhere (FailsCode d) → IsKept d pool rows entries → IsChecked d rows pool entries

@@ -23,9 +23,9 @@ looks_suc look (a ∷ all) [] m row long h new = absurd (omega (arith, long))
 looks_suc look (a ∷ all) (t ∷ traits) m row long h new =
     let more = looks_suc look all traits m row (omega (arith, long)) (record { long = omega (arith, long); each = λ n q. h.each (suc n) q }) new in
     record { long = ap (λ (n : ℕ). suc n) more.long; each = each more } where
-  each : AreLooks look (all ++ m ∷ []) (traits ++ row ∷ []) → (n : ℕ) (q : List ℕ) → look_in look (slice_get (a ∷ (all ++ m ∷ [])) n) q ≡ place_of q (map (λ r. r.name) (Rattle.rl_defs.specs.CodeNames.rows_of (slice_get (t ∷ (traits ++ row ∷ [])) n)))
-  each more zero q = h.each zero q
-  each more (suc n) q = more.each n q
+      each : AreLooks look (all ++ m ∷ []) (traits ++ row ∷ []) → (n : ℕ) (q : List ℕ) → look_in look (slice_get (a ∷ (all ++ m ∷ [])) n) q ≡ place_of q (map (λ r. r.name) (Rattle.rl_defs.specs.CodeNames.rows_of (slice_get (t ∷ (traits ++ row ∷ [])) n)))
+      each more zero q = h.each zero q
+      each more (suc n) q = more.each n q
 
 take_suc_at : {A : Type 0} (xs : List A) (i : ℕ) (x : A) → slice_get xs i ≡ Some x → take (suc i) xs ≡ take i xs ++ x ∷ []
 take_suc_at [] i x e = absurd cc

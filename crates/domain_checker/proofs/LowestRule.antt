@@ -38,4 +38,4 @@ lowest_of k (s ∷ more) rise = lowest_at s.1 s.0 more (lowest_of s.0 more rise.
 pub lowest_rule : (d : Domain) (n : ℕ) (form : DomainLine) (rule : Option ℕ) → rule ≡ lowest (from_30 d n (kinds_at d n) form) → IsLowest (breaks d n form) rule
 lowest_rule d n form rule is =
     subst (IsLowest (breaks d n form)) (sym is) (lowest_of 30 (from_30 d n (kinds_at d n) form)
-        (omega arith, (omega arith, (omega arith, (omega arith, (omega arith, (omega arith, (omega arith, (omega arith, (omega arith, (omega arith, (omega arith, (omega arith, (omega arith, (omega arith, (omega arith, (omega arith, (omega arith, (omega arith, tt)))))))))))))))))))
+    (omega arith, (omega arith, (omega arith, (omega arith, (omega arith, (omega arith, (omega arith, (omega arith, (omega arith, (omega arith, (omega arith, (omega arith, (omega arith, (omega arith, (omega arith, (omega arith, (omega arith, (omega arith, tt)))))))))))))))))))

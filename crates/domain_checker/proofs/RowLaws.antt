@@ -40,7 +40,7 @@ one_instr i j e = cc
 some_is : (o : Option ℕ) (n k : ℕ) → n ≡ unwrap_or o 0 → o ≡ Some k → n ≡ k
 some_is o n k e f = e ∙ ap (λ x. unwrap_or x 0) f
 
-pub row_code : (d : Domain) (n : ℕ) (l : Numbered DomainLine) (i : Instr) (kinds : Kinds) (old pool : List Register) (number type label : ℕ) (here jump : Way) (to : Option ℕ) → slice_get d.lines n ≡ Some l → l.form ≡ line.Code i → kinds ≡ kinds_at d n → IsWithin old here → Leads d kinds n here.line (emptied_on old here) → Grows 32 old pool → IsWithin pool jump → ((p : ℕ) → to ≡ Some p → Leads d (at_label kinds i) p jump.line (emptied_on pool jump)) → to ≡ place_of_label d n (label_of i) → number ≡ unwrap_or (number_named d kinds i) 0 → type ≡ unwrap_or (type_named kinds i) 0 → label ≡ unwrap_or to 0 → IsRow d pool n (record { number = number; of = type; label = label; here = here; jump = jump })
+pub row_code : (d : Domain) (n : ℕ) (l : Numbered DomainLine) (i : Instr) (kinds : Kinds) (old pool : List Register) (number type label : ℕ) (here jump : Way) (to : Option ℕ) → slice_get d.lines n ≡ Some l → l.form ≡ line.Code i → kinds ≡ kinds_at d n → IsWithin old here → Leads d kinds n here.line (emptied_on old here) → Grows 32 old pool → IsWithin pool jump → ((p : ℕ) → to ≡ Some p → Leads d (at_label kinds i) p jump.line (emptied_on pool jump)) → to ≡ place_of_label d n (label_of i) → number ≡ unwrap_or (number_named d n kinds i) 0 → type ≡ unwrap_or (type_named d kinds i) 0 → label ≡ unwrap_or to 0 → IsRow d pool n (record { number = number; of = type; label = label; here = here; jump = jump })
 row_code d n l i kinds old pool number type label here jump to at form known within leads grows jump_within jump_leads to_is number_is type_is label_is = record {
   here_within = within_grown 32 old pool here grows within;
   jump_within = jump_within;
@@ -53,8 +53,8 @@ row_code d n l i kinds old pool number type label here jump to at form known wit
 
   names : Names d n i number type label
   names = record {
-    named = λ k e. some_is (number_named d kinds i) number k number_is (ap (λ ks. number_named d ks i) known ∙ e);
-    typed = λ k e. some_is (type_named kinds i) type k type_is (ap (λ ks. type_named ks i) known ∙ e);
+    named = λ k e. some_is (number_named d n kinds i) number k number_is (ap (λ ks. number_named d n ks i) known ∙ e);
+    typed = λ k e. some_is (type_named d kinds i) type k type_is (ap (λ ks. type_named d ks i) known ∙ e);
     place = λ p e. some_is to label p label_is (to_is ∙ e);
   }
 

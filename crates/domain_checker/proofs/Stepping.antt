@@ -1,6 +1,6 @@
 -- What is known before the next line.
 use Rattle.std.proofs.Common.{◌≡◌, ℕ, ◌+◌, ◌<◌, Bool, true, false, List, [], ◌^◌, length, drop, Option, Some, None, refl, sym, ap, ◌∙◌, arith, add-one}
-use Rattle.std.specs.Prelude.{slice_get}
+use Rattle.std.specs.Prelude.{slice_get, unwrap_or}
 use Rattle.std.proofs.lemmas.Option.{slice_get_within}
 use Rattle.rl_defs.specs.declared.bundle.Numbered.{Numbered}
 use Rattle.rl_defs.specs.declared.code.DomainLine.{DomainLine}
@@ -8,8 +8,9 @@ use Rattle.rl_defs.specs.declared.code.DomainLine.TheVariants as line
 use Rattle.rl_defs.specs.declared.tables.Kind.{Kind}
 use Rattle.rl_defs.specs.DomainValue.{Domain}
 use Rattle.rl_defs.specs.Domains.{Lines}
-use Rattle.rl_defs.specs.CodeNames.{Function, function_at, function_behind_form, method_named, method_of_function, domain_trait, results_of, label_in, find_label}
+use Rattle.rl_defs.specs.CodeNames.{Function, function_at, function_behind_form, method_number, method_named, method_of_function, domain_trait, results_of, label_in, find_label}
 use Rattle.rl_defs.specs.CodeKinds.{Kinds, kinds_at, no_kinds, after_line}
+use Rattle.rl_defs.specs.LineRows.{number_of_function}
 use Rattle.rl_defs.specs.CodeRules.{is_reached, goes_on, is_inside}
 use Rattle.domain_checker.specs.Knowing.{Known}
 
@@ -61,3 +62,16 @@ same_function n line.Close before f c = absurd (c refl)
 pub known_other : (d : Domain) (n : ℕ) (l : Numbered DomainLine) (kinds next : Kinds) (before reached inside : Bool) (results : List Kind) (label : List ℕ → Option ℕ) → Known d n kinds before inside results label → slice_get d.lines n ≡ Some l → ((name : List ℕ) → l.form ≡ line.Function name → ⊥) → (l.form ≡ line.Close → ⊥) → next ≡ after_line d kinds l.form → reached ≡ goes_on l.form → Known d (n + 1) next reached inside results label
 known_other d n l kinds next before reached inside results label k here f c is goes =
     known_in d n l (function_at d.lines n) kinds next reached inside results label k.short here k.kinds_are is goes (function_next d.lines n l here ∙ same_function n l.form (function_at d.lines n) f c) k.inside_is k.results_are k.labels_are
+
+-- the number of the method of the function that the next line is in
+pub numbered_function : (d : Domain) (n : ℕ) (l : Numbered DomainLine) (name : List ℕ) (number : ℕ) → slice_get d.lines n ≡ Some l → l.form ≡ line.Function name → number ≡ unwrap_or (method_number d.tables (domain_trait d) name) 0 → number ≡ unwrap_or (number_of_function d (function_at d.lines (n + 1))) 0
+numbered_function d n l name number here form is =
+    is ∙ ap (λ f. unwrap_or (number_of_function d f) 0) (sym (function_next d.lines n l here ∙ ap (λ f. function_behind_form n f (function_at d.lines n)) form))
+
+pub numbered_close : (d : Domain) (n : ℕ) (l : Numbered DomainLine) → slice_get d.lines n ≡ Some l → l.form ≡ line.Close → 0 ≡ unwrap_or (number_of_function d (function_at d.lines (n + 1))) 0
+numbered_close d n l here form =
+    ap (λ f. unwrap_or (number_of_function d f) 0) (sym (function_next d.lines n l here ∙ ap (λ f. function_behind_form n f (function_at d.lines n)) form))
+
+pub numbered_other : (d : Domain) (n : ℕ) (l : Numbered DomainLine) (number : ℕ) → slice_get d.lines n ≡ Some l → ((name : List ℕ) → l.form ≡ line.Function name → ⊥) → (l.form ≡ line.Close → ⊥) → number ≡ unwrap_or (number_of_function d (function_at d.lines n)) 0 → number ≡ unwrap_or (number_of_function d (function_at d.lines (n + 1))) 0
+numbered_other d n l number here f c is =
+    is ∙ ap (λ g. unwrap_or (number_of_function d g) 0) (sym (function_next d.lines n l here ∙ same_function n l.form (function_at d.lines n) f c))

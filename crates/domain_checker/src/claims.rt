@@ -91,18 +91,16 @@ pub fn has_method(here: &Here, form: &DomainLine) -> bool
     ensures { result ≡ has_method here.now.scope.now here.now.kinds form.now }
 {
     match form {
-        DomainLine::Code(Instr::Call {
-            target,
-            method,
-            args,
-            results,
-            ..
-        }) => has_counts(
-            method_called(
-                here.scope.tables(),
-                kind_in(&here.kinds, *target),
+        DomainLine::Code(
+            Instr::Call {
+                target,
                 method,
-            ),
+                args,
+                results,
+                ..
+            },
+        ) => has_counts(
+            method_called(here.scope.tables(), kind_in(&here.kinds, *target), method),
             args.as_slice(),
             results.as_slice(),
         ),
@@ -119,9 +117,7 @@ fn own_methods<'a>(scope: &Scope<'a>) -> &'a [MethodRow]
 fn import_methods<'a>(scope: &Scope<'a>, body: Native) -> &'a [MethodRow]
     ensures { result.now ≡ natives.import_methods scope.now body }
 {
-    scope
-        .tables()
-        .methods(scope.import_trait(&import_of(body)))
+    scope.tables().methods(scope.import_trait(&import_of(body)))
 }
 
 /// Whether the traits of a native body, and of its import, are of its shape.

@@ -112,11 +112,7 @@ fn put_written(kinds: &mut Kinds, scope: &Scope, before: &Kinds, instr: &Instr)
         | Instr::DevSize(a) => put_kind(kinds, *a, RegKind::Num),
         Instr::Copy(a, b) | Instr::Move(a, b) => put_kind(kinds, *a, kind_in(before, *b)),
         Instr::Cap(a, import) => put_kind(kinds, *a, RegKind::Cap(scope.import_trait(import))),
-        Instr::New(a, ty) => put_kind(
-            kinds,
-            *a,
-            RegKind::Own(scope.tables().struct_number(ty)),
-        ),
+        Instr::New(a, ty) => put_kind(kinds, *a, RegKind::Own(scope.tables().struct_number(ty))),
         Instr::Take(a, slot) => put_kind(kinds, *a, RegKind::Own(scope.slot_struct(slot))),
         Instr::Unhang(a, o, place) => put_kind(
             kinds,
@@ -142,10 +138,7 @@ fn kinds_at_entry(scope: &Scope, name: &Name) -> Kinds
     ensures { result ≡ after_line scope.now no_kinds (Form.Function name.now) }
 {
     let mut kinds = no_kinds();
-    if let Some(method) = scope
-        .tables()
-        .method_named(scope.domain_trait(), name)
-    {
+    if let Some(method) = scope.tables().method_named(scope.domain_trait(), name) {
         put_params(&mut kinds, method.params.as_slice());
     }
     kinds

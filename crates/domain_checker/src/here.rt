@@ -1,20 +1,20 @@
 //! What is known before a line.
-ghost use Rattle.std.specs.Prelude.{◌≡◌, ◌+◌, ◌≤◌, ◌<◌, Some, length, slice_get, nat_eq, IfOk, IfSome};
+ghost use Rattle.std.specs.Prelude.{◌≡◌, ◌+◌, ◌≤◌, ◌<◌, Some, length, slice_get, nat_eq, unwrap_or, IfOk, IfSome};
 ghost use Rattle.std.specs.Cmp.Lexicographic.{pointwise};
 ghost use Rattle.indexmap.specs.IndexMap.{get};
 ghost use Rattle.rl_defs.specs.declared.code.DomainLine.TheVariants as Form;
-ghost use Rattle.rl_defs.specs.CodeNames.{label_at};
+ghost use Rattle.rl_defs.specs.CodeNames.{label_at, function_at};
+ghost use Rattle.rl_defs.specs.LineRows.{number_of_function};
 ghost use Rattle.rl_defs.specs.CodeRules.{label_of, place_of_label};
 ghost use Rattle.rl_defs.specs.Instructions.{label_of_form};
 ghost use Rattle.domain_checker.specs.Knowing.{Known};
 
-use crate::kinds::Kinds;
-use crate::names::NameTable;
-use crate::scope::Scope;
 use crate::declared::labels_from;
 use crate::effects::{kinds_behind, results_of};
 use crate::jumps::goes_on;
-use crate::kinds::no_kinds;
+use crate::kinds::{Kinds, no_kinds};
+use crate::names::NameTable;
+use crate::scope::Scope;
 use indexmap::IndexMap;
 use rl_defs::Memory;
 use rl_defs::bundle::Numbered;
@@ -34,11 +34,14 @@ pub struct Here<'a> {
     pub reached: bool,
     /// Whether the line is in a function.
     pub inside: bool,
+    /// The number of the function's method.
+    pub number: u32,
     /// The results of the function's method.
     pub results: &'a [Kind],
     /// The places of the function's labels.
     pub labels: NameTable,
     ghost known: { Known scope.now place kinds reached inside results.now (get (pointwise nat_eq) labels) },
+    ghost numbered: { number ≡ unwrap_or (number_of_function scope.now (function_at scope.now.lines place)) 0 },
 }
 
 // The label that an instruction may go to.
@@ -93,6 +96,7 @@ pub fn first<'a>(alloc: Global, scope: &'a Scope<'a>) -> Here<'a>
         kinds: no_kinds(),
         reached: false,
         inside: false,
+        number: 0,
         results: &[],
         labels: IndexMap::new(alloc),
     }
@@ -112,9 +116,10 @@ fn enter<'a>(
 {
     let scope = here.scope;
     let place = here.place + 1;
-    let method = scope
-        .tables()
-        .method_named(scope.domain_trait(), name);
+    let tables = scope.tables();
+    let of = scope.domain_trait();
+    let number = tables.method_number(of, name).unwrap_or(0);
+    let method = tables.method_named(of, name);
     let labels = labels_from(alloc, scope.lines(), place)?;
     Ok(Here {
         scope,
@@ -122,6 +127,7 @@ fn enter<'a>(
         kinds: kinds_behind(scope, &here.kinds, &line.form),
         reached: goes_on(&line.form),
         inside: true,
+        number,
         results: results_of(method),
         labels,
     })
@@ -140,6 +146,7 @@ fn leave<'a>(alloc: Global, here: &Here<'a>, line: &Numbered<DomainLine>) -> Her
         kinds: kinds_behind(here.scope, &here.kinds, &line.form),
         reached: goes_on(&line.form),
         inside: false,
+        number: 0,
         results: &[],
         labels: IndexMap::new(alloc),
     }
@@ -164,6 +171,7 @@ pub fn next<'a>(
             kinds: kinds_behind(here.scope, &here.kinds, &line.form),
             reached: goes_on(&line.form),
             inside: here.inside,
+            number: here.number,
             results: here.results,
             labels: here.labels,
         }),

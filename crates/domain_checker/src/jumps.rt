@@ -18,7 +18,10 @@ fn are_listed(tables: &NamedTables, items: &[HeadItem], kinds: &Kinds) -> bool
     ensures { result ≡ list_all (λ w. same_kind w.kind (kind_in kinds.now w.register)) (listed tables.now items.now) }
 {
     'items: for item in items {
-        if !same_kind(listed_kind(tables, &item.kind), kind_in(kinds, item.register)) {
+        if !same_kind(
+            listed_kind(tables, &item.kind),
+            kind_in(kinds, item.register),
+        ) {
             return false;
         }
     }

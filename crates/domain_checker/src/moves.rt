@@ -123,7 +123,9 @@ fn results_move_once(kinds: &Kinds, results: &[Register]) -> bool
     ensures { result ≡ are_distinct (owning kinds.now results.now) }
 {
     'each: for k in 0..results.len() {
-        if is_own(kind_in(kinds, results[k])) && is_returned_from(kinds, results[k], results, k + 1) {
+        if is_own(kind_in(kinds, results[k]))
+            && is_returned_from(kinds, results[k], results, k + 1)
+        {
             return false;
         }
     }

@@ -39,10 +39,7 @@ fn is_owned(kinds: &Kinds, register: Register) -> bool
 fn is_object(kinds: &Kinds, register: Register) -> bool
     ensures { result ≡ meets Object (kind_in kinds.now register) }
 {
-    matches!(
-        kind_in(kinds, register),
-        RegKind::Own(_) | RegKind::Lent(_)
-    )
+    matches!(kind_in(kinds, register), RegKind::Own(_) | RegKind::Lent(_))
 }
 
 fn is_target(kinds: &Kinds, register: Register) -> bool

@@ -33,9 +33,9 @@ fn trait_of_kind(kind: RegKind) -> u32
     }
 }
 
-// The number of the struct, slot, import or method that an instruction names.
+// The number of the struct, slot, import or method that an instruction names. A `ret` names the method of its function.
 fn number_named(here: &Here, instr: &Instr) -> u32
-    ensures { result ≡ unwrap_or (number_named here.now.scope.now here.now.kinds instr.now) 0 }
+    ensures { result ≡ unwrap_or (number_named here.now.scope.now here.now.place here.now.kinds instr.now) 0 }
 {
     let scope = here.scope;
     match instr {
@@ -46,22 +46,21 @@ fn number_named(here: &Here, instr: &Instr) -> u32
         Instr::Cap(_, import) => scope.import(import).unwrap_or(0),
         Instr::Call { target, method, .. } => scope
             .tables()
-            .method_number(
-                trait_of_kind(kind_in(&here.kinds, *target)),
-                method,
-            )
+            .method_number(trait_of_kind(kind_in(&here.kinds, *target)), method)
             .unwrap_or(0),
+        Instr::Ret(_) => here.number,
         _ => 0,
     }
 }
 
-// The trait of the interface that is called, or the struct of the object whose cell is set.
-fn type_named(kinds: &Kinds, instr: &Instr) -> u32
-    ensures { result ≡ unwrap_or (type_named kinds.now instr.now) 0 }
+// The trait of the interface that is called, or of the domain that returns, or the struct of the object whose cell is set.
+fn type_named(here: &Here, instr: &Instr) -> u32
+    ensures { result ≡ unwrap_or (type_named here.now.scope.now here.now.kinds instr.now) 0 }
 {
     match instr {
-        Instr::Set(o, _, _) => object_struct(kind_in(kinds, *o)).unwrap_or(0),
-        Instr::Call { target, .. } => trait_of_kind(kind_in(kinds, *target)),
+        Instr::Set(o, _, _) => object_struct(kind_in(&here.kinds, *o)).unwrap_or(0),
+        Instr::Call { target, .. } => trait_of_kind(kind_in(&here.kinds, *target)),
+        Instr::Ret(_) => here.scope.domain_trait(),
         _ => 0,
     }
 }
@@ -109,7 +108,7 @@ fn row_of(
             let jump = jump_way(ways, emptied, &there, to, way)?;
             Ok(LineRow {
                 number: number_named(here, instr),
-                of: type_named(&here.kinds, instr),
+                of: type_named(here, instr),
                 label: to.unwrap_or(0),
                 here: way,
                 jump,

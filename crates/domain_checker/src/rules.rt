@@ -15,7 +15,11 @@ use rl_defs::code::DomainLine;
 fn from_37(here: &Here, form: &DomainLine) -> Option<u8>
     ensures { result ≡ lowest (from_37 here.now.scope.now here.now.place form.now) }
 {
-    if ends_before(here, form) { None } else { Some(37) }
+    if ends_before(here, form) {
+        None
+    } else {
+        Some(37)
+    }
 }
 
 fn from_36(here: &Here, form: &DomainLine) -> Option<u8>
@@ -33,7 +37,10 @@ fn from_36(here: &Here, form: &DomainLine) -> Option<u8>
 fn from_35(here: &Here, form: &DomainLine) -> Option<u8>
     ensures { result ≡ lowest (from_35 here.now.scope.now here.now.place here.now.kinds form.now) }
 {
-    if !declares(here.scope, form) || !has_its_words(here.scope, form) || !has_import(here.scope, form) {
+    if !declares(here.scope, form)
+        || !has_its_words(here.scope, form)
+        || !has_import(here.scope, form)
+    {
         return Some(35);
     }
     from_36(here, form)

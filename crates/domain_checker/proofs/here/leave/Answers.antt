@@ -1,7 +1,7 @@
 use Rattle.std.proofs.Common.{arith, nat_eq, rules}
 use Rattle.std.specs.Cmp.Lexicographic.{pointwise}
 use Rattle.indexmap.specs.IndexMap.{get}
-use Rattle.domain_checker.proofs.Stepping.{known_close}
+use Rattle.domain_checker.proofs.Stepping.{known_close, numbered_close}
 use Rattle.domain_checker.proofs.here.leave.Goals as goal
 
 pub overflow_add-result : goal.overflow_add-result
@@ -10,4 +10,5 @@ overflow_add-result c = omega (arith, c.args.here.now.known.short, c.args.here.n
 pub invariant_of-result : goal.invariant_of-result
 invariant_of-result c = record {
   known = known_close c.args.here.now.scope.now c.args.here.now.place c.args.line.now c.args.here.now.kinds c.kinds_behind.result c.goes_on.result (get (pointwise nat_eq) c.new.result) c.args.here.now.known.short c.requires.here c.requires.close c.args.here.now.known.kinds_are c.kinds_behind.ensures c.goes_on.ensures (λ q. search rules);
+  numbered = numbered_close c.args.here.now.scope.now c.args.here.now.place c.args.line.now c.requires.here c.requires.close;
 }
