@@ -24,6 +24,7 @@ pub fn take_answer<N: Drop>(domain: &CheckedDomain, frame: Frame<N>, answer: Ans
     ensures fits { (types : Typing) (i : AnInstr) → StandsAt domain.now i (stand_of frame.body) → FitsStand types domain.now (stand_of frame.body) → FitsAnswer types domain.now (kinds_at domain.now (stand_of frame.body).at) i answer → FitsStand types domain.now (stand_of result.body) }
     ensures fits_again { (types : Typing) (i : AnInstr) → FitsWaiting types domain.now i (stand_of frame.body) → FitsAnswer types domain.now (kinds_at domain.now (stand_of frame.body).at) i answer → FitsStand types domain.now (stand_of result.body) }
 {
+    // Its contract says that the domain keeps the rules.
     let _ = domain.lines();
     let Frame {
         call,

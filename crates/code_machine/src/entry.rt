@@ -20,6 +20,7 @@ pub fn body_at_entry<N: Drop>(domain: &CheckedDomain, method: u32, args: &[Arg])
     ensures begins { (place : ℕ) → entry_at domain.now method ≡ Some place → result ≡ body.Code place (entry_registers args.now) }
     ensures fits { (types : Typing) → FitsArguments types domain.now method args.now → FitsStand types domain.now (stand_of result) }
 {
+    // Its contract says that the domain keeps the rules.
     let _ = domain.lines();
     FrameBody::Code {
         line: domain.entry(method as usize),

@@ -6,9 +6,9 @@
 
 pub mod answer;
 pub mod entry;
-pub mod registers;
+mod registers;
 pub mod settle;
-pub mod table;
-pub mod went;
-pub mod widths;
-pub mod work;
+mod table;
+mod went;
+mod widths;
+mod work;

@@ -36,6 +36,7 @@ pub fn settle<V: View, N: Drop>(
     ensures wanted { settle domain.now (V.sight view.now) live fuel (stand_of frame.now.body) ≡ Before result.action result.fuel (record { at = result.line; regs = result.registers }) }
     ensures fits { (types : Typing) → FitsStand types domain.now (stand_of frame.now.body) → FitsSight types domain.now (V.sight view.now) → FitsStand types domain.now (record { at = result.line; regs = result.registers }) }
 {
+    // Its contract says that the domain keeps the rules.
     let _ = domain.lines();
     match &frame.body {
         FrameBody::Code { line, registers } => {
@@ -56,6 +57,7 @@ fn settle_from<V: View>(
     requires { Fitting domain.now (V.sight view.now) (record { at = line; regs = registers }) }
     ensures { settle domain.now (V.sight view.now) live fuel (record { at = line; regs = registers }) ≡ Before result.action result.fuel (record { at = result.line; regs = result.registers }) }
 {
+    // Its contract says that the domain keeps the rules.
     let _ = domain.lines();
     let mut held = registers;
     let mut left = fuel;
