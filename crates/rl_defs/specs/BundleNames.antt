@@ -20,7 +20,7 @@ use Rattle.rl_defs.specs.Interfaces.{place_of, struct_names, trait_names, traits
 use Rattle.rl_defs.specs.NameRules.{FailsNames}
 use Rattle.rl_defs.specs.Domains.{Lines, trait_name}
 use Rattle.rl_defs.specs.CodeNames.{imports, place_in, function_at}
-use Rattle.rl_defs.specs.BundleParts.{Bundle}
+use Rattle.rl_defs.specs.declared.bundle.Bundle.{Bundle}
 
 -- a name, and the number of the line that gives it
 pub record Given : Type 0 where

@@ -3,10 +3,7 @@ use Rattle.std.specs.Prelude.{◌≡◌, ◌<◌, ◌≤◌, ℕ, suc, ◌⊎◌
 use Rattle.rl_defs.specs.declared.bundle.PlanLine.{PlanLine}
 use Rattle.rl_defs.specs.declared.bundle.ClientLine.{ClientLine}
 use Rattle.rl_defs.specs.declared.bundle.ClientLine.TheVariants as client
-use Rattle.rl_defs.specs.declared.bundle.Plan.{Plan}
-use Rattle.rl_defs.specs.declared.bundle.Clients.{Clients}
-use Rattle.rl_defs.specs.declared.idl.Idl.{Idl}
-use Rattle.rl_defs.specs.declared.code.DomainText.{DomainText}
+use Rattle.rl_defs.specs.declared.bundle.Bundle.{Bundle}
 use Rattle.rl_defs.specs.declared.lexeme.Mark.TheVariants as m
 use Rattle.rl_defs.specs.Refusals.{Failing}
 use Rattle.rl_defs.specs.Tokens.{Token, Name, Sign, HasTokens}
@@ -90,6 +87,7 @@ pub record IsPart (texts : List (List ℕ)) (h : Header) (first : ℕ) (inside :
   pub behind : first ≡ suc header
   pub begins : HeaderAt texts header h
   pub last : ℕ
+  pub behind_header : header ≤ last
   pub lines : inside ≡ slice_range texts header last
   pub stops : (last ≡ length texts) ⊎ ((h : Header) × HeaderAt texts (suc last) h)
   pub bare : (place : ℕ) (text : List ℕ) → slice_get inside place ≡ Some text → IsAnyHeader text → ⊥
@@ -143,13 +141,6 @@ FailsForms texts number rule =
     FailsInPart texts number rule
     ⊎ (((rule ≡ 1) × IsBrokenBefore texts number)
     ⊎ ((rule ≡ 2) × (StandsBefore texts number ⊎ IsOutOfOrder texts number)))
-
--- The lines of a bundle's parts. A part that is missing has none.
-pub record Bundle : Type 0 where
-  pub idl : Idl
-  pub domains : List DomainText
-  pub plan : Plan
-  pub clients : Clients
 
 -- a part of the bundle is what its lines stand for, or it is missing and has none
 abbrev pub IsMissing : List (List ℕ) → Header → Type 0

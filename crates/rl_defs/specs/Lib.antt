@@ -45,5 +45,7 @@ pub mod BundleParts
 pub mod BundleNames
 pub mod PlanRules
 pub mod ScriptRules
+pub mod BundleOrder
+pub mod Standing
 pub mod Acceptance
 pub mod CodeLaws

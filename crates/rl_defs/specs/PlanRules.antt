@@ -9,7 +9,7 @@ use Rattle.rl_defs.specs.Refusals.{Failing}
 use Rattle.rl_defs.specs.Interfaces.{place_of}
 use Rattle.rl_defs.specs.Domains.{Lines, trait_name, is_native}
 use Rattle.rl_defs.specs.CodeNames.{Declared, imports, place_in, type_at}
-use Rattle.rl_defs.specs.BundleParts.{Bundle}
+use Rattle.rl_defs.specs.declared.bundle.Bundle.{Bundle}
 use Rattle.rl_defs.specs.BundleNames.{Given, given_by, names_of, bind_given, load_given, client_given, slot_given, load_names, domain_of_load, lines_of_domain, DomainIs, ClientLines, scripts_of}
 
 -- the line of the plan with this number has this form
@@ -133,7 +133,7 @@ pub record GoesOver (most : ℕ) (names : List Given) (n : ℕ) : Type 0 where
   pub here : slice_get names place ≡ Some one
   pub line : one.line ≡ n
 
--- rule 46: the line goes over 16 clients, 64 loads, or 64 slots of a domain
+-- rule 46: the line goes over 64 slots of a domain
 pub record HasTooManySlots (b : Bundle) (n : ℕ) : Type 0 where
   pub lines : Lines
   pub domain : DomainIs b lines
@@ -174,6 +174,7 @@ pub record HasOtherDevice (b : Bundle) (n : ℕ) : Type 0 where
   pub line : PlanIs b n (plan.Device load blocks)
   pub outside : IsOutside 1 4096 blocks
 
+-- rule 46, whole: over 16 clients or 64 loads, or over one of the numbers above
 abbrev pub IsTooMuch : Bundle → ℕ → Type 0
 IsTooMuch b n =
     GoesOver 16 (given_by client_given b.clients.lines) n

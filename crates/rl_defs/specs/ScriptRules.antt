@@ -14,10 +14,10 @@ use Rattle.rl_defs.specs.declared.tables.Tables.{Tables}
 use Rattle.rl_defs.specs.Words.{same_bytes}
 use Rattle.rl_defs.specs.Refusals.{Failing}
 use Rattle.rl_defs.specs.Domains.{Lines, trait_name}
-use Rattle.rl_defs.specs.CodeNames.{struct_number, trait_number, cells_of, method_named, results_of}
+use Rattle.rl_defs.specs.CodeNames.{struct_number, trait_number, cells_of, method_named, params_of, results_of}
 use Rattle.rl_defs.specs.NativeShapes.{is_number}
 use Rattle.rl_defs.specs.Instructions.{fits_width}
-use Rattle.rl_defs.specs.BundleParts.{Bundle}
+use Rattle.rl_defs.specs.declared.bundle.Bundle.{Bundle}
 use Rattle.rl_defs.specs.BundleNames.{ClientLines, scripts_of, domain_of_load, lines_of_domain, names_used}
 use Rattle.rl_defs.specs.PlanRules.{load_of_target}
 
@@ -132,10 +132,6 @@ names_suit results (name ∷ names) = length results == length (name ∷ names)
 abbrev pub has_count : Option MethodRow → List ScriptArgText → Bool
 has_count None args = false
 has_count (Some m) args = length m.params == length args
-
-abbrev pub params_of : Option MethodRow → List Kind
-params_of None = []
-params_of (Some m) = m.params
 
 -- every sentence of rule 50, of a command behind these names
 abbrev pub keeps_kinds : Tables → Bundle → List Bound → ClientLine → Bool

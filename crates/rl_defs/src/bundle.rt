@@ -1,5 +1,7 @@
 //! The lines of the plan and of the clients.
 
+use crate::code::DomainText;
+use crate::idl::Idl;
 use crate::list::List;
 use crate::name::Name;
 
@@ -100,4 +102,13 @@ pub enum ClientLine {
 #[derive(Debug, Drop)]
 pub struct Clients {
     pub lines: List<Numbered<ClientLine>>,
+}
+
+/// The lines of a bundle's parts. A part that is missing has none.
+#[derive(Debug, Drop)]
+pub struct Bundle {
+    pub idl: Idl,
+    pub domains: List<DomainText>,
+    pub plan: Plan,
+    pub clients: Clients,
 }
