@@ -1,5 +1,4 @@
 pub mod ByPlace
-pub mod Allowing
 pub mod Naming
 pub mod Going
 pub mod Keeping

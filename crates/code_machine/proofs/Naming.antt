@@ -6,6 +6,7 @@ use Rattle.std.proofs.lemmas.Bool.{eqb-true}
 use Rattle.std.proofs.lemmas.Option.{slice_get_within}
 use Rattle.rl_defs.specs.declared.values.Value.TheVariants as value
 use Rattle.rl_defs.specs.declared.values.Cause.TheVariants as cause
+use Rattle.rl_defs.specs.declared.frame.Action.{Action}
 use Rattle.rl_defs.specs.declared.frame.Action.TheVariants as action
 use Rattle.rl_defs.specs.declared.code.Register.{Register}
 use Rattle.rl_defs.specs.declared.code.RegKind.{RegKind}
@@ -22,7 +23,7 @@ use Rattle.rl_defs.specs.Sight.{Sight}
 use Rattle.rl_defs.specs.CodeNames.{Function, function_at, cells_of, methods_of, method_number, row_at, params_of, results_of, method_of_function, method_at, domain_trait}
 use Rattle.rl_defs.specs.CodeKinds.{Kinds, kinds_at, kind_in, Owned, Target, read_of_arg, method_called, hung_in, hung_at, as_register}
 use Rattle.rl_defs.specs.CodeRules.{meets, is_met, reads_are_met, operands_suit, object_struct, has_counts, results_suit, same_kind}
-use Rattle.rl_defs.specs.Instructions.{Registers, Works, with_value, with_number, value_in, number_in, object_in, target, bit, unless_trap, setting, cell_kind, slot_number, import_number, trait_of_kind, args_fit, given_by, values_fit, result_in, meaning}
+use Rattle.rl_defs.specs.Instructions.{Registers, Works, Would, with_value, with_number, value_in, number_in, object_in, target, bit, unless_trap, setting, cell_kind, slot_number, import_number, trait_of_kind, args_fit, given_by, values_fit, result_in, meaning}
 use Rattle.rl_defs.specs.CodeFits.{AreTablesSmall}
 use Rattle.rl_defs.specs.CodeNames.{struct_number}
 use Rattle.rl_defs.specs.LineRows.{Names, number_of_function}
@@ -51,6 +52,10 @@ at_line d n i j number of label is names e =
 pub means : (d : Domain) (n : ℕ) (sight : Sight) (live : ℕ) (before behind : Registers) (w : Went) (i j : Instr) → i ≡ j → Comes (meaning d n (kinds_at d n) sight live before j) before behind w → Comes (meaning d n (kinds_at d n) sight live before i) before behind w
 means d n sight live before behind w i j e comes = subst (λ x. Comes (meaning d n (kinds_at d n) sight live before x) before behind w) (sym e) comes
 
+-- the action of the instruction that is known
+pub acts : (d : Domain) (n : ℕ) (sight : Sight) (live : ℕ) (regs : Registers) (w : Action) (i j : Instr) → i ≡ j → meaning d n (kinds_at d n) sight live regs j ≡ Would w → meaning d n (kinds_at d n) sight live regs i ≡ Would w
+acts d n sight live regs w i j e would = subst (λ x. meaning d n (kinds_at d n) sight live regs x ≡ Would w) (sym e) would
+
 pub has_comes : (d : Domain) (n : ℕ) (sight : Sight) (before behind : Registers) (w : Went) (a : Register) (slot : List ℕ) (number of label : ℕ) → At d n (instr.Has a slot) number of label → Comes (Works (with_number before a (bit (is_some (sight.slot number))))) before behind w → Comes (Works (with_number before a (bit (is_some (sight.slot (slot_number d slot)))))) before behind w
 has_comes d n sight before behind w a slot number of label at comes =
     subst (λ k. Comes (Works (with_number before a (bit (is_some (sight.slot k))))) before behind w) (at.names.named (slot_number d slot) refl) comes
@@ -59,29 +64,29 @@ pub cap_comes : (d : Domain) (n : ℕ) (sight : Sight) (before behind : Register
 cap_comes d n sight before behind w a import number of label at comes =
     subst (λ k. Comes (Works (with_value before a (Some (value.Cap (sight.bound k))))) before behind w) (at.names.named (import_number d import) refl) comes
 
-pub new_comes : (d : Domain) (n live : ℕ) (regs : Registers) (w : Went) (a : Register) (ty : List ℕ) (number of label : ℕ) → At d n (instr.New a ty) number of label → Comes (unless_trap (nat_lt live 65536) cause.HeapFull (action.New number)) regs regs w → Comes (unless_trap (nat_lt live 65536) cause.HeapFull (action.New (struct_number d.tables ty))) regs regs w
+pub new_comes : (d : Domain) (n live : ℕ) (regs : Registers) (w : Action) (a : Register) (ty : List ℕ) (number of label : ℕ) → At d n (instr.New a ty) number of label → unless_trap (nat_lt live 65536) cause.HeapFull (action.New number) ≡ Would w → unless_trap (nat_lt live 65536) cause.HeapFull (action.New (struct_number d.tables ty)) ≡ Would w
 new_comes d n live regs w a ty number of label at comes =
-    subst (λ k. Comes (unless_trap (nat_lt live 65536) cause.HeapFull (action.New k)) regs regs w) (at.names.named (struct_number d.tables ty) refl) comes
+    subst (λ k. unless_trap (nat_lt live 65536) cause.HeapFull (action.New k) ≡ Would w) (at.names.named (struct_number d.tables ty) refl) comes
 
-pub take_comes : (d : Domain) (n : ℕ) (sight : Sight) (regs : Registers) (w : Went) (a : Register) (slot : List ℕ) (number of label : ℕ) → At d n (instr.Take a slot) number of label → Comes (unless_trap (is_some (sight.slot number)) cause.Empty (action.Take number)) regs regs w → Comes (unless_trap (is_some (sight.slot (slot_number d slot))) cause.Empty (action.Take (slot_number d slot))) regs regs w
+pub take_comes : (d : Domain) (n : ℕ) (sight : Sight) (regs : Registers) (w : Action) (a : Register) (slot : List ℕ) (number of label : ℕ) → At d n (instr.Take a slot) number of label → unless_trap (is_some (sight.slot number)) cause.Empty (action.Take number) ≡ Would w → unless_trap (is_some (sight.slot (slot_number d slot))) cause.Empty (action.Take (slot_number d slot)) ≡ Would w
 take_comes d n sight regs w a slot number of label at comes =
-    subst (λ k. Comes (unless_trap (is_some (sight.slot k)) cause.Empty (action.Take k)) regs regs w) (at.names.named (slot_number d slot) refl) comes
+    subst (λ k. unless_trap (is_some (sight.slot k)) cause.Empty (action.Take k) ≡ Would w) (at.names.named (slot_number d slot) refl) comes
 
-pub put_comes : (d : Domain) (n : ℕ) (sight : Sight) (regs : Registers) (w : Went) (a : Register) (slot : List ℕ) (number of label : ℕ) → At d n (instr.Put slot a) number of label → Comes (unless_trap (is_none (sight.slot number)) cause.Full (action.Put number (object_in regs a))) regs regs w → Comes (unless_trap (is_none (sight.slot (slot_number d slot))) cause.Full (action.Put (slot_number d slot) (object_in regs a))) regs regs w
+pub put_comes : (d : Domain) (n : ℕ) (sight : Sight) (regs : Registers) (w : Action) (a : Register) (slot : List ℕ) (number of label : ℕ) → At d n (instr.Put slot a) number of label → unless_trap (is_none (sight.slot number)) cause.Full (action.Put number (object_in regs a)) ≡ Would w → unless_trap (is_none (sight.slot (slot_number d slot))) cause.Full (action.Put (slot_number d slot) (object_in regs a)) ≡ Would w
 put_comes d n sight regs w a slot number of label at comes =
-    subst (λ k. Comes (unless_trap (is_none (sight.slot k)) cause.Full (action.Put k (object_in regs a))) regs regs w) (at.names.named (slot_number d slot) refl) comes
+    subst (λ k. unless_trap (is_none (sight.slot k)) cause.Full (action.Put k (object_in regs a)) ≡ Would w) (at.names.named (slot_number d slot) refl) comes
 
 owned_struct : (k : RegKind) → meets Owned k ≡ true → (s : ℕ) × (object_struct k ≡ Some s)
 owned_struct (held.Own s) m = (s, refl)
 owned_struct k m = absurd (cc)
 
-pub set_comes : (d : Domain) (n : ℕ) (sight : Sight) (regs : Registers) (w : Went) (o i v : Register) (number of label : ℕ) → At d n (instr.Set o i v) number of label → Comes (setting (sight.cell (object_in regs o) (number_in regs i)) (cell_kind d (Some of) (number_in regs i)) (object_in regs o) (number_in regs i) (number_in regs v)) regs regs w → Comes (setting (sight.cell (object_in regs o) (number_in regs i)) (cell_kind d (object_struct (kind_in (kinds_at d n) o)) (number_in regs i)) (object_in regs o) (number_in regs i) (number_in regs v)) regs regs w
+pub set_comes : (d : Domain) (n : ℕ) (sight : Sight) (regs : Registers) (w : Action) (o i v : Register) (number of label : ℕ) → At d n (instr.Set o i v) number of label → setting (sight.cell (object_in regs o) (number_in regs i)) (cell_kind d (Some of) (number_in regs i)) (object_in regs o) (number_in regs i) (number_in regs v) ≡ Would w → setting (sight.cell (object_in regs o) (number_in regs i)) (cell_kind d (object_struct (kind_in (kinds_at d n) o)) (number_in regs i)) (object_in regs o) (number_in regs i) (number_in regs v) ≡ Would w
 set_comes d n sight regs w o i v number of label at comes =
     let kinds = kinds_at d n in
     let met = and_left (reads_are_met kinds (instr.Set o i v)) true at.kept.kinds in
     let s = owned_struct (kind_in kinds o) (and_left (meets Owned (kind_in kinds o)) _ met) in
     let is : Some of ≡ object_struct (kind_in kinds o) = ap Some (at.names.typed s.0 s.1) ∙ sym s.1 in
-    subst (λ x. Comes (setting (sight.cell (object_in regs o) (number_in regs i)) (cell_kind d x (number_in regs i)) (object_in regs o) (number_in regs i) (number_in regs v)) regs regs w) is comes
+    subst (λ x. setting (sight.cell (object_in regs o) (number_in regs i)) (cell_kind d x (number_in regs i)) (object_in regs o) (number_in regs i) (number_in regs v) ≡ Would w) is comes
 
 row_is : (methods : List MethodRow) (o : Option ℕ) (args : List CallArg) (results : List Register) → has_counts (row_at methods o) args results ≡ true → row_at methods o ≡ slice_get methods (unwrap_or o 0)
 row_is methods None args results h = absurd (cc)
@@ -103,13 +108,13 @@ called d n c method args results e label number of place at =
     (and_left (meets Target (kind_in kinds c)) (list_all (is_met kinds) (map read_of_arg args)) met) at.kept.method
     (at.names.typed (trait_of_kind (kind_in kinds c)) refl) (at.names.named (unwrap_or (method_number d.tables (trait_of_kind (kind_in kinds c)) method) 0) refl)
 
-pub call_comes : (d : Domain) (n : ℕ) (regs : Registers) (w : Went) (c : Register) (method : List ℕ) (args : List CallArg) (results : List Register) (e : Register) (label : List ℕ) (number of place : ℕ) → At d n (instr.Call c method args results e label) number of place → Comes (unless_trap (args_fit (params_of (slice_get (methods_of d.tables of) number)) (map (given_by regs) args)) cause.Range (action.Call (target (value_in regs c)) number (map (given_by regs) args))) regs regs w → Comes (unless_trap (args_fit (params_of (method_called d.tables (kind_in (kinds_at d n) c) method)) (map (given_by regs) args)) cause.Range (action.Call (target (value_in regs c)) (unwrap_or (method_number d.tables (trait_of_kind (kind_in (kinds_at d n) c)) method) 0) (map (given_by regs) args))) regs regs w
+pub call_comes : (d : Domain) (n : ℕ) (regs : Registers) (w : Action) (c : Register) (method : List ℕ) (args : List CallArg) (results : List Register) (e : Register) (label : List ℕ) (number of place : ℕ) → At d n (instr.Call c method args results e label) number of place → unless_trap (args_fit (params_of (slice_get (methods_of d.tables of) number)) (map (given_by regs) args)) cause.Range (action.Call (target (value_in regs c)) number (map (given_by regs) args)) ≡ Would w → unless_trap (args_fit (params_of (method_called d.tables (kind_in (kinds_at d n) c) method)) (map (given_by regs) args)) cause.Range (action.Call (target (value_in regs c)) (unwrap_or (method_number d.tables (trait_of_kind (kind_in (kinds_at d n) c)) method) 0) (map (given_by regs) args)) ≡ Would w
 call_comes d n regs w c method args results e label number of place at comes =
     let kinds = kinds_at d n in
     let m = unwrap_or (method_number d.tables (trait_of_kind (kind_in kinds c)) method) 0 in
-    subst (λ x. Comes (unless_trap (args_fit (params_of (method_called d.tables (kind_in kinds c) method)) (map (given_by regs) args)) cause.Range (action.Call (target (value_in regs c)) x (map (given_by regs) args))) regs regs w)
+    subst (λ x. unless_trap (args_fit (params_of (method_called d.tables (kind_in kinds c) method)) (map (given_by regs) args)) cause.Range (action.Call (target (value_in regs c)) x (map (given_by regs) args)) ≡ Would w)
     (at.names.named m refl)
-    (subst (λ x. Comes (unless_trap (args_fit (params_of x) (map (given_by regs) args)) cause.Range (action.Call (target (value_in regs c)) number (map (given_by regs) args))) regs regs w)
+    (subst (λ x. unless_trap (args_fit (params_of x) (map (given_by regs) args)) cause.Range (action.Call (target (value_in regs c)) number (map (given_by regs) args)) ≡ Would w)
     (sym (called d n c method args results e label number of place at)) comes)
 
 few_args : (m : Option MethodRow) (args : List CallArg) (results : List Register) → ((x : MethodRow) → m ≡ Some x → length x.params ≤ 8) → has_counts m args results ≡ true → length args ≤ 8
@@ -150,11 +155,11 @@ function_results d kinds (Some f) number regs rs named h = named_results kinds (
 ret_suits : (d : Domain) (n : ℕ) (rs : List Register) (number of place : ℕ) → At d n (instr.Ret rs) number of place → results_suit (kinds_at d n) (results_of (method_at d n)) rs ≡ true
 ret_suits d n rs number of place at = and_right (reads_are_met (kinds_at d n) (instr.Ret rs)) (operands_suit d n (kinds_at d n) (instr.Ret rs)) at.kept.kinds
 
-pub ret_comes : (d : Domain) (n : ℕ) (regs : Registers) (w : Went) (rs : List Register) (number of place : ℕ) → At d n (instr.Ret rs) number of place → Comes (unless_trap (values_fit (results_of (slice_get (methods_of d.tables of) number)) (map (result_in regs) rs)) cause.Range (action.Ret (map (result_in regs) rs))) regs regs w → Comes (unless_trap (values_fit (results_of (method_at d n)) (map (result_in regs) rs)) cause.Range (action.Ret (map (result_in regs) rs))) regs regs w
+pub ret_comes : (d : Domain) (n : ℕ) (regs : Registers) (w : Action) (rs : List Register) (number of place : ℕ) → At d n (instr.Ret rs) number of place → unless_trap (values_fit (results_of (slice_get (methods_of d.tables of) number)) (map (result_in regs) rs)) cause.Range (action.Ret (map (result_in regs) rs)) ≡ Would w → unless_trap (values_fit (results_of (method_at d n)) (map (result_in regs) rs)) cause.Range (action.Ret (map (result_in regs) rs)) ≡ Would w
 ret_comes d n regs w rs number of place at comes =
     let of_trait = at.names.typed (domain_trait d) refl in
     let same = function_results d (kinds_at d n) (function_at d.lines n) number regs rs at.names.named (ret_suits d n rs number of place at) in
-    subst (λ b. Comes (unless_trap b cause.Range (action.Ret (map (result_in regs) rs))) regs regs w)
+    subst (λ b. unless_trap b cause.Range (action.Ret (map (result_in regs) rs)) ≡ Would w)
     (ap (λ x. values_fit (results_of (slice_get (methods_of d.tables x) number)) (map (result_in regs) rs)) of_trait ∙ sym same) comes
 
 few_row : (methods : List MethodRow) (o : Option ℕ) → ((m : ℕ) (x : MethodRow) → slice_get methods m ≡ Some x → length x.results ≤ 4) → length (results_of (row_at methods o)) ≤ 4

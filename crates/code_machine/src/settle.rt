@@ -4,6 +4,7 @@ ghost use Rattle.rl_defs.specs.Instructions.{Before, settle, behind_heads, jumpe
 ghost use Rattle.rl_defs.specs.CodeFits.{Typing, FitsStand, FitsSight, stand_of};
 ghost use Rattle.code_machine.specs.Fitting.{Fitting, FitsLine, GoesToLabel};
 
+use crate::act::action_at;
 use crate::registers::empty;
 use crate::went::Went;
 use crate::work::work;
@@ -63,7 +64,7 @@ fn settle_from<V: View>(
     let mut left = fuel;
     let mut place = come(domain, line, &mut held);
     'lines: while left > 0 {
-        match work(domain, place as usize, view, live, &mut held) {
+        match work(domain, place as usize, view, &mut held) {
             Went::Next => {
                 place = come(domain, place + 1, &mut held);
                 left -= 1;
@@ -72,9 +73,9 @@ fn settle_from<V: View>(
                 place = come_to_label(domain, place, &mut held);
                 left -= 1;
             }
-            Went::Act(action) => {
+            Went::Stop => {
                 return Wanted {
-                    action,
+                    action: action_at(domain, place as usize, view, live, &held),
                     line: place,
                     registers: held,
                     fuel: left,

@@ -18,8 +18,9 @@ use Rattle.rl_defs.specs.Instructions.{Registers, is_listed}
 use Rattle.rl_defs.specs.CodeFits.{Typing, fits_kind, Fits}
 use Rattle.rl_defs.specs.LineRows.{emptied, Leads}
 use Rattle.domain_checker.specs.declared.ways.Run.{Run}
-use Rattle.domain_checker.specs.Heads.{is_in, run_at, keep_in, holds_some, is_emptied, Puts, Grows}
+use Rattle.domain_checker.specs.Heads.{is_in, all_registers, run_at, keep_in, holds_some, is_emptied, Puts, Grows}
 use Rattle.domain_checker.proofs.Passing.{length-keep_in, through_run}
+use Rattle.domain_checker.proofs.SetLaws.{in_all}
 
 none_either : (b : Bool) → ◌≡◌ {A = Option Value} None (if b then None else None)
 none_either true = refl
@@ -119,6 +120,16 @@ leads_there lines tables kinds place run old new from to run_is puts from_is to_
 
 pub puts_nothing : (kinds : Kinds) (s : ℕ) (old : List Register) → Puts kinds s 0 old old
 puts_nothing kinds s old = record { added = []; behind = sym (append-nil old); few = omega arith; are = λ r. ap (λ b. b && is_emptied s (get_or kinds r kind.Empty) r) (sym (le-ltb r 0 (omega arith))) }
+
+none_of : (k : RegKind) (s r : ℕ) → s ≡ all_registers → ((nat_lt r 32 ≡ true) × (r < 32)) ⊎ ((nat_lt r 32 ≡ false) × (32 < suc r)) → false ≡ (nat_lt r 32 && is_emptied s k r)
+none_of k s r all (inl below) =
+    let inside : is_in s r ≡ true = ap (λ n. is_in n r) all ∙ in_all r below.1 in
+    sym (ap (λ b. nat_lt r 32 && (holds_some k && not b)) inside ∙ (ap (λ b. nat_lt r 32 && b) (and-false (holds_some k)) ∙ and-false (nat_lt r 32)))
+none_of k s r all (inr above) = sym (ap (λ b. b && is_emptied s k r) above.0)
+
+-- nothing is put where the set has all registers
+pub puts_none : (kinds : Kinds) (s : ℕ) (old : List Register) → s ≡ all_registers → Puts kinds s 32 old old
+puts_none kinds s old all = record { added = []; behind = sym (append-nil old); few = omega arith; are = λ r. none_of (get_or kinds r kind.Empty) s r all (leb_tells (suc r) 32) }
 
 lt_case : (r n : ℕ) → n ≢ r → ((nat_lt r n ≡ true) × (r < n)) ⊎ ((nat_lt r n ≡ false) × (n < suc r)) → nat_lt r (n + 1) ≡ nat_lt r n
 lt_case r n ne (inl below) = lt-ltb r (n + 1) (omega (arith, below.1)) ∙ sym below.0

@@ -43,6 +43,7 @@ struct Whole {
     entries: Vec<u32>,
 }
 
+// Where the body of the function of this name begins: behind its head. It is one more than the count of lines where there is no such function.
 fn entry_of(scope: &Scope, name: &Name) -> u32
     ensures { result ≡ body_of_function scope.now.lines name.now }
 {
@@ -64,6 +65,7 @@ fn entries_of(alloc: Global, scope: &Scope, methods: &[MethodRow]) -> Result<Vec
     Ok(entries)
 }
 
+// What is kept beside lines that keep the rules, or the first line that one of the rules refuses, with the lowest of these rules there.
 fn kept_beside(
     alloc: Global,
     tables: &NamedTables,

@@ -126,7 +126,7 @@ pub fn has_shape(scope: &Scope, form: &DomainLine) -> bool
 {
     match form {
         DomainLine::Native(body) => !has_other_shape(
-            scope.tables().tables(),
+            scope.tables(),
             *body,
             own_methods(scope),
             import_methods(scope, *body),

@@ -48,16 +48,26 @@ fn spares_written(kinds: &Kinds, instr: &Instr) -> bool
     }
 }
 
+// The same behind what the instruction moves. Only a `move` and a call move an object and write a register.
+fn spares_unmoved(kinds: &Kinds, instr: &Instr) -> bool
+    ensures { result ≡ list_all (spares (left kinds.now instr.now)) (written instr.now) }
+{
+    match instr {
+        Instr::Move(..) | Instr::Call { .. } => {
+            let mut after = *kinds;
+            leave_moved(&mut after, instr);
+            spares_written(&after, instr)
+        }
+        _ => spares_written(kinds, instr),
+    }
+}
+
 /// Whether no register is written that holds an own object which the line doesn't move.
 pub fn spares_objects(kinds: &Kinds, form: &DomainLine) -> bool
     ensures { result ≡ spares_objects kinds.now form.now }
 {
     match form {
-        DomainLine::Code(instr) => {
-            let mut after = *kinds;
-            leave_moved(&mut after, instr);
-            spares_written(&after, instr)
-        }
+        DomainLine::Code(instr) => spares_unmoved(kinds, instr),
         _ => true,
     }
 }

@@ -2,16 +2,16 @@
 ghost use Rattle.std.specs.Prelude.{◌≡◌, ℕ, ◌&&◌, [], ◌∷◌, ◌++◌, length, fold};
 ghost use Rattle.std.specs.List.{list_all, zip};
 ghost use Rattle.rl_defs.specs.DomainValue.{Domain};
-ghost use Rattle.rl_defs.specs.CodeNames.{cells_of};
 ghost use Rattle.rl_defs.specs.Words.{same_bytes};
 ghost use Rattle.rl_defs.specs.NativeShapes as natives;
 ghost use Rattle.rl_defs.specs.NativeShapes.{is_number, has_cells, serves, is_shape, are_shapes, same_mark, is_method, are_methods, same_role, put_where, are_one, structs_for, structs_in, own_methods, import_methods, has_other_shape, has_other_structs};
 ghost use Rattle.domain_checker.specs.Shapes.{role_meant, shape_meant, shapes_meant, method_meant, methods_meant};
 ghost use Rattle.domain_checker.specs.OneStruct.{with_struct, with_all, is_one};
 
+use crate::tables::NamedTables;
 use rl_defs::code::Native;
 use rl_defs::name::Name;
-use rl_defs::tables::{Kind, MethodRow, Tables, Width};
+use rl_defs::tables::{Kind, MethodRow, Width};
 
 /// What a struct of these traits is for.
 #[derive(Clone, Copy, Debug, PartialEq, Eq)]
@@ -248,29 +248,19 @@ fn serves(role: Role, cells: &[Kind]) -> bool
     }
 }
 
-// The cells of a struct. There are none where the struct isn't there.
-fn cells_of(tables: &Tables, number: u32) -> &[Kind]
-    ensures { result.now ≡ cells_of tables.now number }
-{
-    match tables.structs.get(number as usize) {
-        Some(row) => row.flat.as_slice(),
-        None => &[],
-    }
-}
-
-fn is_shape(tables: &Tables, shape: Shape, kind: Kind) -> bool
+fn is_shape(tables: &NamedTables, shape: Shape, kind: Kind) -> bool
     ensures { result ≡ is_shape tables.now (shape_meant shape) kind }
 {
     match (shape, kind) {
         (Shape::Number(width), _) => is_number(width, &kind),
-        (Shape::Passes(role), Kind::Own(number)) => serves(role, cells_of(tables, number)),
-        (Shape::Lends(role), Kind::Lent(number)) => serves(role, cells_of(tables, number)),
+        (Shape::Passes(role), Kind::Own(number)) => serves(role, tables.cells(number)),
+        (Shape::Lends(role), Kind::Lent(number)) => serves(role, tables.cells(number)),
         _ => false,
     }
 }
 
 // Whether the kinds are of the shapes at their places, as far as both go.
-fn suit_shapes(tables: &Tables, shapes: &[Shape], kinds: &[Kind]) -> bool
+fn suit_shapes(tables: &NamedTables, shapes: &[Shape], kinds: &[Kind]) -> bool
     ensures { result ≡ list_all (λ p. is_shape tables.now (shape_meant p.0) p.1) (zip shapes.now kinds.now) }
 {
     shapes
@@ -279,7 +269,7 @@ fn suit_shapes(tables: &Tables, shapes: &[Shape], kinds: &[Kind]) -> bool
         .all(|(shape, kind)| is_shape(tables, *shape, *kind))
 }
 
-fn are_shapes(tables: &Tables, shapes: &[Shape], kinds: &[Kind]) -> bool
+fn are_shapes(tables: &NamedTables, shapes: &[Shape], kinds: &[Kind]) -> bool
     ensures { result ≡ are_shapes tables.now (shapes_meant shapes.now) kinds.now }
 {
     shapes.len() == kinds.len() && suit_shapes(tables, shapes, kinds)
@@ -297,7 +287,7 @@ fn same_mark(wanted: bool, marked: bool) -> bool
     wanted == marked
 }
 
-fn is_method(tables: &Tables, shape: &MethodShape, row: &MethodRow) -> bool
+fn is_method(tables: &NamedTables, shape: &MethodShape, row: &MethodRow) -> bool
     ensures { result ≡ is_method tables.now (method_meant shape.now) row.now }
 {
     is_named(row, shape.name)
@@ -307,7 +297,7 @@ fn is_method(tables: &Tables, shape: &MethodShape, row: &MethodRow) -> bool
 }
 
 // Whether the rows are of the shapes at their places, as far as both go.
-fn suit_methods(tables: &Tables, shapes: &[MethodShape], rows: &[MethodRow]) -> bool
+fn suit_methods(tables: &NamedTables, shapes: &[MethodShape], rows: &[MethodRow]) -> bool
     ensures { result ≡ list_all (λ p. is_method tables.now (method_meant p.0) p.1) (zip shapes.now rows.now) }
 {
     shapes
@@ -316,7 +306,7 @@ fn suit_methods(tables: &Tables, shapes: &[MethodShape], rows: &[MethodRow]) -> 
         .all(|(shape, row)| is_method(tables, shape, row))
 }
 
-fn are_methods(tables: &Tables, shapes: &[MethodShape], rows: &[MethodRow]) -> bool
+fn are_methods(tables: &NamedTables, shapes: &[MethodShape], rows: &[MethodRow]) -> bool
     ensures { result ≡ are_methods tables.now (methods_meant shapes.now) rows.now }
 {
     shapes.len() == rows.len() && suit_methods(tables, shapes, rows)
@@ -325,7 +315,7 @@ fn are_methods(tables: &Tables, shapes: &[MethodShape], rows: &[MethodRow]) -> b
 /// Whether the trait of a domain, or that of its native body's import, is not of the body's shape. `own` are the methods of the
 /// domain's trait, `theirs` those of the import's.
 pub(crate) fn has_other_shape(
-    tables: &Tables,
+    tables: &NamedTables,
     body: Native,
     own: &[MethodRow],
     theirs: &[MethodRow],

@@ -1,6 +1,7 @@
 //! What is kept beside the lines of a domain.
 ghost use Rattle.std.specs.Prelude.{◌≡◌, ℕ, ◌+◌, ◌<◌, Some, length, slice_get, slice_range, unwrap_or, IfOk, IfSome, OnOk};
 ghost use Rattle.rl_defs.specs.declared.tables.Tables.{Tables};
+ghost use Rattle.rl_defs.specs.CodeKinds.{at_label};
 ghost use Rattle.rl_defs.specs.Instructions.{trait_of_kind};
 ghost use Rattle.rl_defs.specs.LineRows.{number_named, type_named, Leads};
 ghost use Rattle.rl_defs.specs.Checked.{IsWithin, IsRow};
@@ -65,23 +66,25 @@ fn type_named(here: &Here, instr: &Instr) -> u32
     }
 }
 
-// The way of a frame that goes to a label with registers of these kinds, or else another way.
+// The way of a frame that goes to the label of an instruction before which the registers are of these kinds, or else another way.
 fn jump_way(
     ways: &Ways,
     emptied: &mut Vec<Register>,
     kinds: &Kinds,
+    instr: &Instr,
     to: Option<u32>,
     otherwise: Way,
 ) -> Result<Way, Memory>
     requires label { IfSome to (λ p. p < length ways.now.lines.now) }
     requires within { IsWithin emptied.old.items otherwise }
-    ensures leads { IfOk result (λ way. (tables : Tables) (p : ℕ) → to ≡ Some p → Leads (record { lines = ways.now.lines.now; tables = tables }) kinds.now p way.line (slice_range emptied.new.items way.from way.to)) }
+    ensures leads { IfOk result (λ way. (tables : Tables) (p : ℕ) → to ≡ Some p → Leads (record { lines = ways.now.lines.now; tables = tables }) (at_label kinds.now instr.now) p way.line (slice_range emptied.new.items way.from way.to)) }
     ensures within { IfOk result (IsWithin emptied.new.items) }
     ensures grows { OnOk result (Grows 32 emptied.old.items emptied.new.items) }
 {
     match to {
         Some(place) => {
-            let way = ways.way(emptied, kinds, place as usize)?;
+            let there = kinds_at_label(kinds, instr);
+            let way = ways.way(emptied, &there, place as usize)?;
             Ok(way)
         }
         None => Ok(otherwise),
@@ -104,8 +107,7 @@ fn row_of(
     match &line.form {
         DomainLine::Code(instr) => {
             let to = target(here, &line.form);
-            let there = kinds_at_label(&here.kinds, instr);
-            let jump = jump_way(ways, emptied, &there, to, way)?;
+            let jump = jump_way(ways, emptied, &here.kinds, instr, to, way)?;
             Ok(LineRow {
                 number: number_named(here, instr),
                 of: type_named(here, instr),

@@ -11,7 +11,7 @@ ghost use Rattle.domain_checker.specs.Numbering.{AreLooks};
 use crate::names::{NameTable, methods_by_name, structs_by_name, traits_by_name};
 use rl_defs::Memory;
 use rl_defs::name::Name;
-use rl_defs::tables::{Kind, MethodRow, SharedTables, Tables, TraitRow};
+use rl_defs::tables::{Kind, MethodRow, SharedTables, TraitRow};
 use std::alloc::Global;
 use std::marker::Model;
 
@@ -84,13 +84,6 @@ impl NamedTables {
         ensures small { AreTablesSmall self.now }
     {
         self.tables.share()
-    }
-
-    /// The tables.
-    pub fn tables(&self) -> &Tables
-        ensures { result.now ≡ self.now }
-    {
-        self.tables.get()
     }
 
     /// The number of the struct of this name. It is 0 where there is none.

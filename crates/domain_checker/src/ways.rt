@@ -62,7 +62,7 @@ impl<'a> Ways<'a> {
         }
         let run = self.runs.as_slice()[self.lines.len() - 1 - place];
         let from = pool.len();
-        put_emptied(pool, kinds, run.listed)?;
+        put_unlisted(pool, kinds, run.listed)?;
         Ok(Way {
             line: run.line,
             from: from as u32,
@@ -152,4 +152,14 @@ fn put_emptied(pool: &mut Vec<Register>, kinds: &[RegKind; 32], set: u32) -> Res
         }
     }
     Ok(())
+}
+
+// The same of a set that mostly has all registers, since most lines are no heads: then none is put.
+fn put_unlisted(pool: &mut Vec<Register>, kinds: &[RegKind; 32], set: u32) -> Result<(), Memory>
+    ensures { OnOk result (Puts kinds.now set 32 pool.old.items pool.new.items) }
+{
+    if set == u32::MAX {
+        return Ok(());
+    }
+    put_emptied(pool, kinds, set)
 }

@@ -11,3 +11,4 @@ pub mod PartLaws
 pub mod WriteLaws
 pub mod OrderLaws
 pub mod WriteAgain
+pub mod DomainOrder

@@ -1,10 +1,10 @@
--- Lines in an order in which they may stand are refused nowhere.
-use Rattle.std.proofs.Common.{◌≡◌, ℕ, ◌+◌, inl, inr, List, [], ◌∷◌, ◌++◌, length, Option, Some, None, refl, sym, ap, subst, ◌∙◌, append_assoc, append-nil, length-append, arith}
+-- Lines in an order in which they may stand are refused nowhere, and the other way round.
+use Rattle.std.proofs.Common.{◌≡◌, ℕ, ◌+◌, ◌⊎◌, inl, inr, List, [], ◌∷◌, ◌++◌, length, Option, Some, None, refl, sym, ap, subst, ◌∙◌, append_assoc, append-nil, length-append, arith}
 use Rattle.std.specs.Prelude.{slice_get, fold}
 use Rattle.rl_defs.specs.declared.bundle.Numbered.{Numbered}
 use Rattle.rl_defs.specs.Refusals.{Nowhere}
 use Rattle.rl_defs.specs.Parts.{Grammar, next_open, block_behind, forms_of, numbered, StandFor, FailsPart}
-use Rattle.rl_text.proofs.PartRules.{AreForms, SoFar, no_lines, next_skips, next_stands, all_closed}
+use Rattle.rl_text.proofs.PartRules.{AreForms, SoFar, no_lines, next_skips, next_stands, left_open, all_closed}
 
 at_end : {A : Type 0} (front : List A) (x : A) (more : List A) → slice_get (front ++ x ∷ more) (length front) ≡ Some x
 at_end [] x more = refl
@@ -15,7 +15,7 @@ no_block G [] = refl
 no_block G (form ∷ forms) = no_block G forms
 
 -- the block behind a line that is followed by others up to a whole part
-next_is : {Form Block : Type 0} (G : Grammar Form Block) (block : Block) (form : Form) (forms : List Form) (o : Option Block) (last : Block) → G.next block form ≡ o → fold (next_open G) (Some block) (form ∷ forms) ≡ Some last → (next : Block) × (G.next block form ≡ Some next) × (fold (next_open G) (Some next) forms ≡ Some last)
+pub next_is : {Form Block : Type 0} (G : Grammar Form Block) (block : Block) (form : Form) (forms : List Form) (o : Option Block) (last : Block) → G.next block form ≡ o → fold (next_open G) (Some block) (form ∷ forms) ≡ Some last → (next : Block) × (G.next block form ≡ Some next) × (fold (next_open G) (Some next) forms ≡ Some last)
 next_is {Form} {Block} G block form forms (Some next) last is e = (next, is, sym (ap (λ (o : Option Block). fold (next_open G) o forms) is) ∙ e)
 next_is {Form} {Block} G block form forms None last is e = absurd (let f = sym (no_block G forms) ∙ sym (ap (λ (o : Option Block). fold (next_open G) o forms) is) ∙ e in cc)
 
@@ -42,3 +42,37 @@ walk {Form} {Block} G forms first all front (text ∷ texts) done more block is 
 -- texts that stand for lines behind which no block is open, each in its place, are refused nowhere
 pub ordered_nowhere : {Form Block : Type 0} (G : Grammar Form Block) → AreForms G → (first : ℕ) (texts : List (List ℕ)) (lines : List (Numbered Form)) → StandFor G first texts lines → block_behind G (forms_of lines) ≡ Some G.outside → Nowhere (FailsPart G first texts)
 ordered_nowhere G forms first texts lines stand closed = walk G forms first texts [] texts [] lines G.outside refl (no_lines G first texts) (subst (λ (n : ℕ). StandFor G n texts lines) (omega arith) stand) closed
+
+-- ---- lines that are refused nowhere stand in order
+
+-- a form that stands in its place, before others up to a whole part
+goes_on : {Form Block : Type 0} (G : Grammar Form Block) (block : Block) (form : Form) (forms : List Form) (o : Option Block) → G.next block form ≡ o → (G.next block form ≡ None → ⊥) → ((next : Block) → G.next block form ≡ Some next → fold (next_open G) (Some next) forms ≡ Some G.outside) → fold (next_open G) (G.next block form) forms ≡ Some G.outside
+goes_on G block form forms None is barred more = absurd (barred is)
+goes_on {Form} {Block} G block form forms (Some next) is barred more = ap (λ (o : Option Block). fold (next_open G) o forms) is ∙ more next is
+
+behind_all : {Form Block : Type 0} (G : Grammar Form Block) (first : ℕ) (all : List (List ℕ)) (done : List (Numbered Form)) (block : Block) → Nowhere (FailsPart G first all) → SoFar G first all (length all) done block → (block ≡ G.outside) ⊎ (block ≡ G.outside → ⊥) → block ≡ G.outside
+behind_all G first all done block none so (inl e) = e
+behind_all G first all done block none so (inr n) = absurd (none (first + length all) 2 (left_open G first (length all) all done block refl so n).fails)
+
+walk_order : {Form Block : Type 0} (G : Grammar Form Block) → AreForms G → ((block : Block) → (block ≡ G.outside) ⊎ (block ≡ G.outside → ⊥)) → (first : ℕ) (all front texts : List (List ℕ)) (done more : List (Numbered Form)) (block : Block) → all ≡ front ++ texts → SoFar G first all (length front) done block → StandFor G (first + length front) texts more → Nowhere (FailsPart G first all) → fold (next_open G) (Some block) (forms_of more) ≡ Some G.outside
+walk_order {Form} {Block} G forms decide first all front [] done more block is so stand none =
+    let count : length front ≡ length all = sym (ap length (is ∙ append-nil front)) in
+    ap (λ (x : List (Numbered Form)). fold (next_open G) (Some block) (forms_of x)) stand ∙ ap (λ (b : Block). Some b) (behind_all G first all done block none (subst (λ (i : ℕ). SoFar G first all i done block) count so) (decide block))
+walk_order {Form} {Block} G forms decide first all front (text ∷ texts) done more block is so (inl h) none =
+    let here : slice_get all (length front) ≡ Some text = ap (λ (x : List (List ℕ)). slice_get x (length front)) is ∙ at_end front text texts in
+    let next : SoFar G first all (length front + 1) done block = next_skips G forms first (length front) all text block block done done here so (record { skipped = h.0; same_block = refl; same_lines = refl }) in
+    let count : length (front ++ text ∷ []) ≡ length front + 1 = length-append front (text ∷ []) in
+    walk_order G forms decide first all (front ++ text ∷ []) texts done more block (is ∙ sym (append_assoc front (text ∷ []) texts)) (subst (λ (i : ℕ). SoFar G first all i done block) (sym count) next) (subst (λ (n : ℕ). StandFor G n texts more) (omega (arith, count)) h.1) none
+walk_order {Form} {Block} G forms decide first all front (text ∷ texts) done more block is so (inr (form, others, shape, f, h)) none =
+    let here : slice_get all (length front) ≡ Some text = ap (λ (x : List (List ℕ)). slice_get x (length front)) is ∙ at_end front text texts in
+    let line : Numbered Form = numbered (first + length front) form in
+    let count : length (front ++ text ∷ []) ≡ length front + 1 = length-append front (text ∷ []) in
+    let barred : G.next block form ≡ None → ⊥ = λ e. none (first + length front) 2 (inr (refl, inl (record { behind = length front; text = text; line = record { place = refl; here = here }; form = form; is = f; before = done; stand = so.stand; block = block; open_block = so.open_block; barred = e }))) in
+    let later : (next : Block) → G.next block form ≡ Some next → fold (next_open G) (Some next) (forms_of others) ≡ Some G.outside = λ next e.
+    let behind : SoFar G first all (length front + 1) (done ++ line ∷ []) next = next_stands G forms first (length front) (first + length front) all text block next done (done ++ line ∷ []) here refl so (record { form = form; is = f; allowed = e; put = refl }) in
+    walk_order G forms decide first all (front ++ text ∷ []) texts (done ++ line ∷ []) others next (is ∙ sym (append_assoc front (text ∷ []) texts)) (subst (λ (i : ℕ). SoFar G first all i (done ++ line ∷ []) next) (sym count) behind) (subst (λ (m : ℕ). StandFor G m texts others) (omega (arith, count)) h) none in
+    ap (λ (x : List (Numbered Form)). fold (next_open G) (Some block) (forms_of x)) shape ∙ goes_on G block form (forms_of others) (G.next block form) refl barred later
+
+-- behind the lines of texts that are refused nowhere no block is open, and each stands in its place
+pub nowhere_ordered : {Form Block : Type 0} (G : Grammar Form Block) → AreForms G → ((block : Block) → (block ≡ G.outside) ⊎ (block ≡ G.outside → ⊥)) → (first : ℕ) (texts : List (List ℕ)) (lines : List (Numbered Form)) → StandFor G first texts lines → Nowhere (FailsPart G first texts) → block_behind G (forms_of lines) ≡ Some G.outside
+nowhere_ordered G forms decide first texts lines stand none = walk_order G forms decide first texts [] texts [] lines G.outside refl (no_lines G first texts) (subst (λ (n : ℕ). StandFor G n texts lines) (omega arith) stand) none

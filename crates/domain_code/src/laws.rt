@@ -2,7 +2,7 @@
 ghost use Rattle.rl_defs.specs.DomainForms.{IsDomainLine};
 ghost use Rattle.rl_defs.specs.DomainParts.{domain_part};
 ghost use Rattle.rl_text.specs.Forms.{OneForm, SkippedIsNoForm, OnePart};
-ghost use Rattle.domain_code.specs.Laws.{OneCut};
+ghost use Rattle.domain_code.specs.Laws.{OneCut, EachStandsAlone};
 
 /// No two forms share a spelling, and a line without tokens is none.
 pub fn one_form()
@@ -14,4 +14,10 @@ pub fn one_form()
 pub fn one_part()
     ensures lines { OnePart domain_part }
     ensures domains { OneCut }
+{}
+
+/// Where no rule refuses a part, each of its domains has the lines of one domain, in an order in which they may stand, numbered upwards. They
+/// are no more than the lines of the part.
+pub fn each_domain()
+    ensures { EachStandsAlone }
 {}

@@ -1,5 +1,7 @@
-use Rattle.std.proofs.Common.{◌≡◌, ◌+◌, ◌-◌, sym, ◌∙◌, ap, arith}
-use Rattle.rl_defs.specs.Instructions.{Registers, Before, settle, jumped}
+use Rattle.std.proofs.Common.{◌≡◌, ◌+◌, ◌-◌, true, sym, ◌∙◌, ap, subst, arith}
+use Rattle.rl_defs.specs.Instructions.{Registers, Would, Before, settle, work, jumped}
+use Rattle.code_machine.specs.Went.{stops}
+use Rattle.code_machine.specs.Fitting.{Fitting, AtInstr}
 use Rattle.code_machine.proofs.Going.{standing, ready, goes_next, goes_label, settle_behind, settle_next, settle_label, settle_acts, settle_ends}
 use Rattle.code_machine.proofs.settle.settle_from.Goals as goal
 
@@ -18,11 +20,11 @@ lines-init g c =
 
 pub come-place-requires-in-Next-clause-within : goal.come-place-requires-in-Next-clause-within
 come-place-requires-in-Next-clause-within g c =
-    (goes_next c.args.domain.now (g.V.View.sight c.args.view.now) c.args.live c.lines.place c.lines.held c.work.new.registers c.lines.invariant.keeps c.lines.invariant.ready c.in-Next.ensures).stand.within
+    (goes_next c.args.domain.now (g.V.View.sight c.args.view.now) c.args.live c.lines.place c.lines.held c.work.new.registers c.lines.invariant.keeps c.lines.invariant.ready (c.in-Next.ensures c.args.live)).stand.within
 
 pub come-place-requires-in-Next-clause-fits : goal.come-place-requires-in-Next-clause-fits
 come-place-requires-in-Next-clause-fits g c =
-    let next = goes_next c.args.domain.now (g.V.View.sight c.args.view.now) c.args.live c.lines.place c.lines.held c.work.new.registers c.lines.invariant.keeps c.lines.invariant.ready c.in-Next.ensures in
+    let next = goes_next c.args.domain.now (g.V.View.sight c.args.view.now) c.args.live c.lines.place c.lines.held c.work.new.registers c.lines.invariant.keeps c.lines.invariant.ready (c.in-Next.ensures c.args.live) in
     record { types = next.types; fits = next.stand.regs }
 
 pub lines-preserved-in-Next : goal.lines-preserved-in-Next
@@ -30,7 +32,7 @@ lines-preserved-in-Next g c =
     let d = c.args.domain.now in
     let sight = g.V.View.sight c.args.view.now in
     let keeps = c.lines.invariant.keeps in
-    let next = goes_next d sight c.args.live c.lines.place c.lines.held c.work.new.registers keeps c.lines.invariant.ready c.in-Next.ensures in
+    let next = goes_next d sight c.args.live c.lines.place c.lines.held c.work.new.registers keeps c.lines.invariant.ready (c.in-Next.ensures c.args.live) in
     let from = standing (c.lines.place + 1) c.work.new.registers in
     let to = standing c.come-place-in-Next.result c.come-place-in-Next.new.registers in
     let there = ready d sight from to keeps next c.come-place-in-Next.ensures in
@@ -39,20 +41,20 @@ lines-preserved-in-Next g c =
       ready = there;
       same =
           c.lines.invariant.same
-          ∙ (settle_next d sight c.args.live c.lines.left c.lines.place c.lines.held c.work.new.registers c.lines-test.true c.lines.invariant.ready c.in-Next.ensures
+          ∙ (settle_next d sight c.args.live c.lines.left c.lines.place c.lines.held c.work.new.registers c.lines-test.true c.lines.invariant.ready (c.in-Next.ensures c.args.live)
           ∙ settle_behind d sight c.args.live (c.lines.left - 1) from to keeps there c.come-place-in-Next.ensures);
     }
 
 pub come_to_label-place-requires-clause-goes : goal.come_to_label-place-requires-clause-goes
 come_to_label-place-requires-clause-goes g c =
-    (goes_label c.args.domain.now (g.V.View.sight c.args.view.now) c.args.live c.lines.place c.lines.held c.work.new.registers c.lines.invariant.keeps c.lines.invariant.ready c.in-Jump.ensures).0
+    (goes_label c.args.domain.now (g.V.View.sight c.args.view.now) c.args.live c.lines.place c.lines.held c.work.new.registers c.lines.invariant.keeps c.lines.invariant.ready (c.in-Jump.ensures c.args.live)).0
 
 pub lines-preserved : goal.lines-preserved
 lines-preserved g c =
     let d = c.args.domain.now in
     let sight = g.V.View.sight c.args.view.now in
     let keeps = c.lines.invariant.keeps in
-    let goes = goes_label d sight c.args.live c.lines.place c.lines.held c.work.new.registers keeps c.lines.invariant.ready c.in-Jump.ensures in
+    let goes = goes_label d sight c.args.live c.lines.place c.lines.held c.work.new.registers keeps c.lines.invariant.ready (c.in-Jump.ensures c.args.live) in
     let from = jumped d c.lines.place c.work.new.registers in
     let to = standing c.come_to_label-place.result c.come_to_label-place.new.registers in
     let there = ready d sight from to keeps goes.1 c.come_to_label-place.ensures in
@@ -61,15 +63,31 @@ lines-preserved g c =
       ready = there;
       same =
           c.lines.invariant.same
-          ∙ (settle_label d sight c.args.live c.lines.left c.lines.place c.lines.held c.work.new.registers c.lines-test.true c.lines.invariant.ready c.in-Jump.ensures
+          ∙ (settle_label d sight c.args.live c.lines.left c.lines.place c.lines.held c.work.new.registers c.lines-test.true c.lines.invariant.ready (c.in-Jump.ensures c.args.live)
           ∙ settle_behind d sight c.args.live (c.lines.left - 1) from to keeps there c.come_to_label-place.ensures);
     }
 
-pub returns-in-Act : goal.returns-in-Act
-returns-in-Act g c =
+pub action_at-requires-clause-fits : goal.action_at-requires-clause-fits
+action_at-requires-clause-fits g c =
+    subst (λ (r : Registers). Fitting c.args.domain.now (g.V.View.sight c.args.view.now) (standing c.lines.place r)) (sym (c.in-Stop.ensures c.args.live).1) c.lines.invariant.ready.fits
+
+pub action_at-requires-clause-at : goal.action_at-requires-clause-at
+action_at-requires-clause-at g c =
+    subst (λ (r : Registers). AtInstr c.args.domain.now (standing c.lines.place r)) (sym (c.in-Stop.ensures c.args.live).1) c.lines.invariant.ready.at
+
+pub action_at-requires-clause-stops : goal.action_at-requires-clause-stops
+action_at-requires-clause-stops g c =
+    subst (λ (r : Registers). stops (work c.args.domain.now (g.V.View.sight c.args.view.now) c.args.live (standing c.lines.place r)) ≡ true) (sym (c.in-Stop.ensures c.args.live).1) (c.in-Stop.ensures c.args.live).0
+
+pub returns-in-Stop : goal.returns-in-Stop
+returns-in-Stop g c =
+    let d = c.args.domain.now in
+    let sight = g.V.View.sight c.args.view.now in
+    let same = (c.in-Stop.ensures c.args.live).1 in
+    let would = subst (λ (r : Registers). work d sight c.args.live (standing c.lines.place r) ≡ Would c.action_at.result) same c.action_at.ensures in
     c.lines.invariant.same
-    ∙ (settle_acts c.args.domain.now (g.V.View.sight c.args.view.now) c.args.live c.lines.left (standing c.lines.place c.lines.held) c.in-Act.action c.lines-test.true c.lines.invariant.ready c.in-Act.ensures.0
-    ∙ ap (λ (r : Registers). Before c.in-Act.action c.lines.left (standing c.lines.place r)) (sym c.in-Act.ensures.1))
+    ∙ (settle_acts d sight c.args.live c.lines.left (standing c.lines.place c.lines.held) c.action_at.result c.lines-test.true c.lines.invariant.ready would
+    ∙ ap (λ (r : Registers). Before c.action_at.result c.lines.left (standing c.lines.place r)) (sym same))
 
 pub returns : goal.returns
 returns g c =

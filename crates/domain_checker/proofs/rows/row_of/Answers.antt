@@ -2,7 +2,7 @@ use Rattle.std.proofs.Common.{◌<◌, length, sym, ap, subst, ◌∙◌, arith}
 use Rattle.std.specs.Prelude.{IfSome}
 use Rattle.rl_defs.specs.declared.code.DomainLine.{DomainLine}
 use Rattle.rl_defs.specs.Domains.{Lines}
-use Rattle.rl_defs.specs.CodeKinds.{Kinds, at_label}
+use Rattle.rl_defs.specs.CodeKinds.{at_label}
 use Rattle.rl_defs.specs.CodeRules.{place_of_label}
 use Rattle.rl_defs.specs.Instructions.{label_of_form}
 use Rattle.rl_defs.specs.LineRows.{Leads}
@@ -18,7 +18,7 @@ returns-in_ok-jump-in-Code-clause-row c =
     row_code c.args.here.now.scope.now c.args.here.now.place c.args.line.now c.in-Code.instr c.args.here.now.kinds c.way.new.pool.items c.jump_way.new.emptied.items c.number_named.result c.type_named.result c.unwrap_or.result c.in_ok-way.way c.in_ok-jump-in-Code.jump c.target-to.result c.requires.here c.in-Code.is c.args.here.now.known.kinds_are c.in_ok-way.ensures.within
     (subst (λ (ls : Lines). Leads (record { lines = ls; tables = c.args.here.now.scope.now.tables }) c.args.here.now.kinds c.args.here.now.place c.in_ok-way.way.line (emptied_on c.way.new.pool.items c.in_ok-way.way)) c.requires.lines (c.in_ok-way.ensures.leads c.args.here.now.scope.now.tables))
     c.in_ok-jump-in-Code.ensures.grows c.in_ok-jump-in-Code.ensures.within
-    (λ p e. subst (λ (ls : Lines). Leads (record { lines = ls; tables = c.args.here.now.scope.now.tables }) (at_label c.args.here.now.kinds c.in-Code.instr) p c.in_ok-jump-in-Code.jump.line (emptied_on c.jump_way.new.emptied.items c.in_ok-jump-in-Code.jump)) c.requires.lines (subst (λ (ks : Kinds). Leads (record { lines = c.args.ways.now.lines.now; tables = c.args.here.now.scope.now.tables }) ks p c.in_ok-jump-in-Code.jump.line (emptied_on c.jump_way.new.emptied.items c.in_ok-jump-in-Code.jump)) c.kinds_at_label-there.ensures (c.in_ok-jump-in-Code.ensures.leads c.args.here.now.scope.now.tables p e)))
+    (λ p e. subst (λ (ls : Lines). Leads (record { lines = ls; tables = c.args.here.now.scope.now.tables }) (at_label c.args.here.now.kinds c.in-Code.instr) p c.in_ok-jump-in-Code.jump.line (emptied_on c.jump_way.new.emptied.items c.in_ok-jump-in-Code.jump)) c.requires.lines (c.in_ok-jump-in-Code.ensures.leads c.args.here.now.scope.now.tables p e))
     (c.target-to.ensures.value ∙ ap (λ (f : DomainLine). place_of_label c.args.here.now.scope.now c.args.here.now.place (label_of_form f)) c.in-Code.is) c.number_named.ensures c.type_named.ensures c.unwrap_or.ensures
 
 pub returns-in_default : goal.returns-in_default
