@@ -1,0 +1,12 @@
+pub mod Naming
+pub mod Walking
+pub mod Giving
+pub mod Listing
+pub mod Pairs
+pub mod PlanLaws
+pub mod GivenLaws
+pub mod PartNumbers
+pub mod ScriptLaws
+pub mod ClientLaws
+pub mod Binding
+pub mod Composition

@@ -1,0 +1,4 @@
+pub mod Tests
+pub mod PlanNames
+pub mod GivenSoFar
+pub mod ClientNames

@@ -1,0 +1,249 @@
+//! The names that a bundle declares, with look-ups.
+ghost use Rattle.std.specs.Prelude.{◌≡◌, ◌∷◌, [], ◌++◌, map, OnOk, IfOk};
+ghost use Rattle.std.specs.List.{flat_map};
+ghost use Rattle.std.specs.Option.{option_copied};
+ghost use Rattle.rl_defs.specs.Interfaces.{struct_names};
+ghost use Rattle.rl_defs.specs.CodeNames.{imports};
+ghost use Rattle.rl_defs.specs.BundleNames.{names_of, given_by, domain_given, import_given, domains_loaded, target_given, load_given, client_given};
+ghost use Rattle.bundle_names.specs.Tests.{is_given, is_unknown, lacks, has_unknown, struct_given};
+ghost use Rattle.bundle_names.specs.PlanNames.{declared_names, known_names, imports_of_load};
+
+use name_tables::names::Names;
+use rl_defs::Memory;
+use rl_defs::bundle::{Bundle, ClientLine, Numbered, PlanLine};
+use rl_defs::code::{DomainLine, DomainText};
+use rl_defs::idl::IdlLine;
+use rl_defs::list::List;
+use rl_defs::name::Name;
+use std::alloc::Global;
+
+/// Adds a name, and says whether it was there. A table counts its names in 32 bits; more are more than memory has room for.
+pub fn add(names: &mut Names, name: &Name) -> Result<bool, Memory>
+    ensures added { OnOk result (names.new ≡ names.old ++ name.now ∷ []) }
+    ensures again { IfOk result (λ again. again ≡ is_given names.old name.now) }
+{
+    if names.len() == u32::MAX {
+        return Err(Memory);
+    }
+    Ok(names.add(name)?.is_some())
+}
+
+/// Whether none of these names is this one.
+pub fn is_unknown(names: &Names, name: &Name) -> bool
+    ensures { result ≡ is_unknown names.now name.now }
+{
+    names.place(name).is_none()
+}
+
+/// Whether one of the names that are used isn't declared.
+pub fn has_unknown(declared: &Names, used: &[Name]) -> bool
+    ensures { result ≡ has_unknown declared.now used.now }
+{
+    used.iter().any(|name| is_unknown(declared, name))
+}
+
+fn put_domain(names: &mut Names, form: &DomainLine) -> Result<(), Memory>
+    ensures { OnOk result (names.new ≡ names.old ++ domain_given form.now) }
+{
+    if let DomainLine::Domain(name, _) = form {
+        add(names, name)?;
+    }
+    Ok(())
+}
+
+fn put_import(names: &mut Names, form: &DomainLine) -> Result<(), Memory>
+    ensures { OnOk result (names.new ≡ names.old ++ import_given form.now) }
+{
+    if let DomainLine::Import(name, _) = form {
+        add(names, name)?;
+    }
+    Ok(())
+}
+
+fn put_load(names: &mut Names, form: &PlanLine) -> Result<(), Memory>
+    ensures { OnOk result (names.new ≡ names.old ++ load_given form.now) }
+{
+    if let PlanLine::Load { name, .. } = form {
+        add(names, name)?;
+    }
+    Ok(())
+}
+
+fn put_loaded(names: &mut List<Name>, form: &PlanLine) -> Result<(), Memory>
+    ensures { OnOk result (names.new ≡ names.old ++ domains_loaded form.now) }
+{
+    if let PlanLine::Load { domain, .. } = form {
+        names.push(*domain)?;
+    }
+    Ok(())
+}
+
+fn put_target(names: &mut Names, form: &PlanLine) -> Result<(), Memory>
+    ensures { OnOk result (names.new ≡ names.old ++ target_given form.now) }
+{
+    if let PlanLine::Load { name, .. } | PlanLine::Shadow { name, .. } = form {
+        add(names, name)?;
+    }
+    Ok(())
+}
+
+fn put_client(names: &mut Names, form: &ClientLine) -> Result<(), Memory>
+    ensures { OnOk result (names.new ≡ names.old ++ client_given form.now) }
+{
+    if let ClientLine::Client(name) = form {
+        add(names, name)?;
+    }
+    Ok(())
+}
+
+fn put_struct(names: &mut Names, form: &IdlLine) -> Result<(), Memory>
+    ensures { OnOk result (names.new ≡ names.old ++ struct_given form.now) }
+{
+    if let IdlLine::Struct(name) = form {
+        add(names, name)?;
+    }
+    Ok(())
+}
+
+// Adds the names of the domains that begin at these lines.
+fn add_domains(names: &mut Names, lines: &[Numbered<DomainLine>]) -> Result<(), Memory>
+    ensures { OnOk result (names.new ≡ names.old ++ names_of (given_by domain_given lines.now)) }
+{
+    'lines: for line in lines {
+        put_domain(names, &line.form)?;
+    }
+    Ok(())
+}
+
+fn domain_names(alloc: Global, domains: &[DomainText]) -> Result<Names, Memory>
+    ensures { IfOk result (λ names. names ≡ names_of (given_by domain_given (flat_map (λ d. d.lines) domains.now))) }
+{
+    let mut names = Names::new(alloc);
+    'domains: for domain in domains {
+        add_domains(&mut names, domain.lines.as_slice())?;
+    }
+    Ok(names)
+}
+
+fn imports_of(alloc: Global, lines: &[Numbered<DomainLine>]) -> Result<Names, Memory>
+    ensures { IfOk result (λ names. names ≡ declared_names (imports lines.now)) }
+{
+    let mut names = Names::new(alloc);
+    'lines: for line in lines {
+        put_import(&mut names, &line.form)?;
+    }
+    Ok(names)
+}
+
+fn imports_by_domain(alloc: Global, domains: &[DomainText]) -> Result<List<Names>, Memory>
+    ensures { IfOk result (λ all. all ≡ map (λ d. declared_names (imports d.lines)) domains.now) }
+{
+    let mut all = List::new(alloc);
+    'domains: for domain in domains {
+        let names = imports_of(alloc, domain.lines.as_slice())?;
+        all.push(names)?;
+    }
+    Ok(all)
+}
+
+fn load_names(alloc: Global, lines: &[Numbered<PlanLine>]) -> Result<Names, Memory>
+    ensures { IfOk result (λ names. names ≡ names_of (given_by load_given lines.now)) }
+{
+    let mut names = Names::new(alloc);
+    'lines: for line in lines {
+        put_load(&mut names, &line.form)?;
+    }
+    Ok(names)
+}
+
+fn domains_loaded(alloc: Global, lines: &[Numbered<PlanLine>]) -> Result<List<Name>, Memory>
+    ensures { IfOk result (λ names. names ≡ names_of (given_by domains_loaded lines.now)) }
+{
+    let mut names = List::new(alloc);
+    'lines: for line in lines {
+        put_loaded(&mut names, &line.form)?;
+    }
+    Ok(names)
+}
+
+/// The names of the loads and shadows.
+pub fn target_names(alloc: Global, lines: &[Numbered<PlanLine>]) -> Result<Names, Memory>
+    ensures { IfOk result (λ names. names ≡ names_of (given_by target_given lines.now)) }
+{
+    let mut names = Names::new(alloc);
+    'lines: for line in lines {
+        put_target(&mut names, &line.form)?;
+    }
+    Ok(names)
+}
+
+fn client_names(alloc: Global, lines: &[Numbered<ClientLine>]) -> Result<Names, Memory>
+    ensures { IfOk result (λ names. names ≡ names_of (given_by client_given lines.now)) }
+{
+    let mut names = Names::new(alloc);
+    'lines: for line in lines {
+        put_client(&mut names, &line.form)?;
+    }
+    Ok(names)
+}
+
+/// The names of the structs of an interface part.
+pub fn struct_names(alloc: Global, lines: &[Numbered<IdlLine>]) -> Result<Names, Memory>
+    ensures { IfOk result (λ names. names ≡ struct_names lines.now) }
+{
+    let mut names = Names::new(alloc);
+    'lines: for line in lines {
+        put_struct(&mut names, &line.form)?;
+    }
+    Ok(names)
+}
+
+/// The names that lines of the plan may use. The imports stand by the number of their domain, the domains that are loaded by the number of
+/// their load.
+#[derive(Drop)]
+pub struct Known {
+    pub domains: Names,
+    pub imports: List<Names>,
+    pub loads: Names,
+    pub loaded: List<Name>,
+    pub targets: Names,
+    pub clients: Names,
+}
+
+impl Known {
+    /// The names of a bundle.
+    pub fn new(alloc: Global, bundle: &Bundle) -> Result<Known, Memory>
+        ensures { IfOk result (λ k. k ≡ known_names bundle.now) }
+    {
+        let domains = bundle.domains.as_slice();
+        let plan = bundle.plan.lines.as_slice();
+        Ok(Known {
+            domains: domain_names(alloc, domains)?,
+            imports: imports_by_domain(alloc, domains)?,
+            loads: load_names(alloc, plan)?,
+            loaded: domains_loaded(alloc, plan)?,
+            targets: target_names(alloc, plan)?,
+            clients: client_names(alloc, bundle.clients.lines.as_slice())?,
+        })
+    }
+
+    // The imports of the domain of the load of this name, where the load and the domain are declared.
+    fn imports_of_load(&self, load: &Name) -> Option<&Names>
+        ensures { option_copied result ≡ imports_of_load self.now load.now }
+    {
+        let load = self.loads.place(load)?;
+        let domain = self.loaded.get(load as usize)?;
+        let domain = self.domains.place(domain)?;
+        self.imports.get(domain as usize)
+    }
+
+    /// Whether the domain of this load is declared, and has no import of this name.
+    pub fn lacks_import(&self, load: &Name, import: &Name) -> bool
+        ensures { result ≡ lacks (imports_of_load self.now load.now) import.now }
+    {
+        match self.imports_of_load(load) {
+            Some(imports) => is_unknown(imports, import),
+            None => false,
+        }
+    }
+}

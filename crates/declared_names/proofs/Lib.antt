@@ -1,0 +1,14 @@
+pub mod Lists
+pub mod Scoping
+pub mod Lasting
+pub mod Scanning
+pub mod Naming
+pub mod FlatLines
+pub mod MethodTables
+pub mod Labels
+pub mod InterfaceNaming
+pub mod InterfaceScan
+pub mod DomainUses
+pub mod DomainScan
+pub mod DomainNaming
+pub mod DomainsScan

@@ -1,0 +1,166 @@
+//! What the lines of a domain give and use.
+ghost use Rattle.std.specs.Prelude.{◌≡◌, ◌||◌, Some, None, [], not, is_some, OnOk, IfOk};
+ghost use Rattle.std.specs.List.{list_any};
+ghost use Rattle.rl_defs.specs.Interfaces.{place_of};
+ghost use Rattle.declared_names.specs.Scopes.{rule_when};
+ghost use Rattle.declared_names.specs.DomainNames.{at_domain, domain_role, slot_role, import_role, function_role, label_role, declared_behind, HasSpace, is_given_again, is_absent, is_kind_unknown, names_unknown};
+
+use crate::known::Known;
+use crate::roles::{Role, pass, rule_when};
+use name_tables::names::Names;
+use rl_defs::Memory;
+use rl_defs::code::{DomainLine, HeadItem, HeadKind, Instr};
+use rl_defs::name::Name;
+use std::alloc::Global;
+
+/// The names that the lines so far have given: of domains; of slots, imports and functions of the domain; of labels of the function.
+#[derive(Drop)]
+pub struct Declared {
+    domains: Option<Names>,
+    slots: Option<Names>,
+    imports: Option<Names>,
+    functions: Option<Names>,
+    labels: Option<Names>,
+}
+
+impl Declared {
+    /// Nothing was given yet.
+    pub fn new(alloc: Global) -> Declared
+        ensures { result ≡ at_domain (Some []) }
+    {
+        Declared {
+            domains: Some(Names::new(alloc)),
+            slots: Some(Names::new(alloc)),
+            imports: Some(Names::new(alloc)),
+            functions: Some(Names::new(alloc)),
+            labels: None,
+        }
+    }
+
+    /// Begins the next domain, which may give the names of another's slots, imports, functions and labels again.
+    pub fn begin(&mut self, alloc: Global)
+        ensures { self.new ≡ at_domain self.old.domains }
+    {
+        self.slots = Some(Names::new(alloc));
+        self.imports = Some(Names::new(alloc));
+        self.functions = Some(Names::new(alloc));
+        self.labels = None;
+    }
+
+    /// Takes one line more, and gives the lower of the rules 3 and 4 that fails there.
+    pub fn rule_of(
+        &mut self,
+        alloc: Global,
+        known: &Known,
+        methods: &Names,
+        line: &DomainLine,
+    ) -> Result<Option<u8>, Memory>
+        requires { HasSpace self.old }
+        ensures behind { OnOk result (self.new ≡ declared_behind line.now self.old) }
+        ensures rule { IfOk result (λ rule. rule ≡ rule_when (is_given_again line.now self.old) (names_unknown known.now.structs known.now.traits methods.now line.now)) }
+    {
+        let repeats = self.pass(alloc, line)?;
+        Ok(rule_when(
+            repeats,
+            names_unknown(&known.structs, &known.traits, methods, line),
+        ))
+    }
+
+    // Takes one line more, and tells whether it gives a name again.
+    fn pass(&mut self, alloc: Global, line: &DomainLine) -> Result<bool, Memory>
+        requires { HasSpace self.old }
+        ensures behind { OnOk result (self.new ≡ declared_behind line.now self.old) }
+        ensures repeats { IfOk result (λ again. again ≡ is_given_again line.now self.old) }
+    {
+        let domain = pass(alloc, &mut self.domains, domain_role(line))?;
+        let slot = pass(alloc, &mut self.slots, slot_role(line))?;
+        let import = pass(alloc, &mut self.imports, import_role(line))?;
+        let function = pass(alloc, &mut self.functions, function_role(line))?;
+        let label = pass(alloc, &mut self.labels, label_role(line))?;
+        Ok(domain || (slot || (import || (function || label))))
+    }
+}
+
+fn domain_role(line: &DomainLine) -> Role
+    ensures { result ≡ domain_role line.now }
+{
+    match line {
+        DomainLine::Domain(name, _) => Role::Gives(*name),
+        _ => Role::Passes,
+    }
+}
+
+fn slot_role(line: &DomainLine) -> Role
+    ensures { result ≡ slot_role line.now }
+{
+    match line {
+        DomainLine::Slot(name, _) => Role::Gives(*name),
+        _ => Role::Passes,
+    }
+}
+
+fn import_role(line: &DomainLine) -> Role
+    ensures { result ≡ import_role line.now }
+{
+    match line {
+        DomainLine::Import(name, _) => Role::Gives(*name),
+        _ => Role::Passes,
+    }
+}
+
+fn function_role(line: &DomainLine) -> Role
+    ensures { result ≡ function_role line.now }
+{
+    match line {
+        DomainLine::Function(name) => Role::Gives(*name),
+        _ => Role::Passes,
+    }
+}
+
+fn label_role(line: &DomainLine) -> Role
+    ensures { result ≡ label_role line.now }
+{
+    match line {
+        DomainLine::Function(_) => Role::Opens,
+        DomainLine::Head(name, _) => Role::Gives(*name),
+        DomainLine::Close => Role::Ends,
+        _ => Role::Passes,
+    }
+}
+
+fn is_absent(names: &Names, name: &Name) -> bool
+    ensures { result ≡ is_absent names.now name.now }
+{
+    names.place(name).is_none()
+}
+
+fn is_kind_unknown(structs: &Names, traits: &Names, kind: &HeadKind) -> bool
+    ensures { result ≡ is_kind_unknown structs.now traits.now kind.now }
+{
+    match kind {
+        HeadKind::Own(ty) | HeadKind::Lent(ty) => is_absent(structs, ty),
+        HeadKind::Cap(has) => is_absent(traits, has),
+        HeadKind::Num => false,
+    }
+}
+
+fn is_any_unknown(structs: &Names, traits: &Names, items: &[HeadItem]) -> bool
+    ensures { result ≡ list_any (λ item. is_kind_unknown structs.now traits.now item.kind) items.now }
+{
+    items
+        .iter()
+        .any(|item| is_kind_unknown(structs, traits, &item.kind))
+}
+
+// Whether the line names a struct or trait that nothing declares, or a function that the trait has no method for.
+fn names_unknown(structs: &Names, traits: &Names, methods: &Names, line: &DomainLine) -> bool
+    ensures { result ≡ names_unknown structs.now traits.now methods.now line.now }
+{
+    match line {
+        DomainLine::Slot(_, ty) | DomainLine::Code(Instr::New(_, ty)) => is_absent(structs, ty),
+        DomainLine::Domain(_, has) | DomainLine::Import(_, has) => is_absent(traits, has),
+        DomainLine::Function(name) => is_absent(methods, name),
+        DomainLine::Head(_, items) => is_any_unknown(structs, traits, items.as_slice()),
+        _ => false,
+    }
+}

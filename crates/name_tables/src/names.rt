@@ -1,0 +1,85 @@
+//! Names in order, with the place where each stands first.
+ghost use Rattle.std.specs.Prelude.{◌≡◌, ℕ, ◌+◌, ◌-◌, ◌^◌, ◌<◌, List, [], ◌∷◌, ◌++◌, length, OnOk, OnErr, IfOk};
+ghost use Rattle.rl_defs.specs.Interfaces.{place_of};
+
+use indexmap::IndexMap;
+use rl_defs::Memory;
+use rl_defs::name::Name;
+use std::alloc::Global;
+use std::marker::Model;
+
+/// Names in order, with the place where each stands first. A name may stand there more than once. Contracts see the list of the names.
+#[derive(Drop)]
+pub struct Names {
+    names: Vec<Name>,
+    places: IndexMap<Name, u32>,
+}
+
+impl Model for Names {
+    ghost use Rattle.std.specs.Prelude.{List, ℕ};
+    ghost use Rattle.name_tables.specs.Placed.{IsPlaced};
+
+    ghost Value = { List (List ℕ) };
+
+    ghost view = { λ t. t.names.items };
+
+    ghost invariant = { λ t. IsPlaced t.names.items t.places };
+}
+
+impl Names {
+    /// No names. They take memory only as they are added.
+    pub fn new(alloc: Global) -> Names
+        ensures { result ≡ [] }
+    {
+        Names {
+            names: Vec::new(alloc),
+            places: IndexMap::new(alloc),
+        }
+    }
+
+    /// Adds a name, and gives the place where it stood before, from 0, if it did. After `Memory` the names are as before.
+    pub fn add(&mut self, name: &Name) -> Result<Option<u32>, Memory>
+        requires room { length self.old < 2 ^ 32 - 1 }
+        ensures added { OnOk result (self.new ≡ self.old ++ name.now ∷ []) }
+        ensures before { IfOk result (λ place. place ≡ place_of name.now self.old) }
+        ensures full { OnErr result (self.new ≡ self.old) }
+    {
+        let place = self.names.len() as u32;
+        let earlier = self.places.get(name).copied();
+        push(&mut self.names, name)?;
+        if earlier.is_some() {
+            return Ok(earlier);
+        }
+        match self.places.insert(*name, place) {
+            Ok(_) => Ok(None),
+            Err(_) => {
+                self.names.pop();
+                Err(Memory)
+            }
+        }
+    }
+
+    /// The place where a name stands first, from 0, if it is there.
+    pub fn place(&self, name: &Name) -> Option<u32>
+        ensures { result ≡ place_of name.now self.now }
+    {
+        self.places.get(name).copied()
+    }
+
+    /// How many names were added.
+    pub fn len(&self) -> u32
+        ensures { result ≡ length self.now }
+    {
+        self.names.len() as u32
+    }
+}
+
+fn push(names: &mut Vec<Name>, name: &Name) -> Result<(), Memory>
+    ensures added { OnOk result (names.new.items ≡ names.old.items ++ name.now ∷ []) }
+    ensures full { OnErr result (names.new.items ≡ names.old.items) }
+{
+    match names.push(*name) {
+        Ok(()) => Ok(()),
+        Err(_) => Err(Memory),
+    }
+}
