@@ -1,0 +1,10 @@
+pub mod HeaderLaws
+pub mod Ranges
+pub mod PartEnds
+pub mod Cutting
+pub mod Numbers
+pub mod Closed
+pub mod PartCuts
+pub mod PartKinds
+pub mod Whole
+pub mod OneBundle

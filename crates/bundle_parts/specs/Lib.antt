@@ -1,0 +1,4 @@
+pub mod Headers
+pub mod Cuts
+pub mod Parts
+pub mod Laws

@@ -1,0 +1,10 @@
+pub mod Readings
+pub mod PlanTakes
+pub mod PlanAgain
+pub mod PlanLaws
+pub mod ClientTakes
+pub mod ClientAgain
+pub mod ClientLaws
+pub mod WriteLaws
+pub mod OrderLaws
+pub mod WriteAgain

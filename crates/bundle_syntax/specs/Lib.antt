@@ -1,0 +1,9 @@
+pub mod PlanVerbs
+pub mod PlanLines
+pub mod ClientVerbs
+pub mod ClientLines
+pub mod Blocks
+pub mod LinesCanonical
+pub mod PlanCanonical
+pub mod ClientCanonical
+pub mod Writable

@@ -1,0 +1,5 @@
+//! The lines of the plan.
+
+mod form;
+pub mod read;
+pub mod write;
