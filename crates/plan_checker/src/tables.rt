@@ -1,0 +1,245 @@
+//! A plan with look-ups of its names.
+ghost use Rattle.std.specs.Prelude.{◌≡◌, ℕ, ◌+◌, ◌^◌, ◌<◌, ◌≤◌, ◌∷◌, ◌++◌, [], List as Items, length, map, take, drop, OnOk, IfOk, IfSome};
+ghost use Rattle.std.specs.Option.{option_copied};
+ghost use Rattle.std.specs.List.{flat_map};
+ghost use Rattle.rl_defs.specs.Interfaces.{place_of};
+ghost use Rattle.rl_defs.specs.DomainValue.{Domain};
+ghost use Rattle.rl_defs.specs.BundleNames.{given_by, names_of, domain_given, domain_names, load_names, lines_of_domain, domain_of_load};
+ghost use Rattle.rl_defs.specs.PlanRules.{load_of_target, load_of_shadow};
+ghost use Rattle.rl_defs.specs.Standing.{load_number, target_number, is_serial_in, bound_to};
+ghost use Rattle.plan_checker.specs.Facts.{HasLoadNames};
+ghost use Rattle.plan_checker.specs.Lookups.{plan_bundle, lines_of_load, lines_of_target, place_of_target, bound_at};
+
+use crate::facts::DomainFacts;
+use crate::pairs::{Binds, Pairs, binds_of, loads_of, serial_of, shadows_of};
+use name_tables::names::Names;
+use rl_defs::Memory;
+use rl_defs::bundle::{Numbered, PlanLine};
+use rl_defs::checked::CheckedDomain;
+use rl_defs::list::List;
+use rl_defs::name::Name;
+use std::alloc::Global;
+use std::marker::Model;
+
+// The domains by their names, with what the plan looks at in each.
+#[derive(Drop)]
+struct Domains<'a> {
+    names: Names,
+    facts: List<DomainFacts<'a>>,
+}
+
+/// The lines of a plan and the domains of its bundle, with look-ups. Contracts see a bundle of these domains and this plan.
+#[derive(Drop)]
+pub struct PlanTables<'a> {
+    lines: &'a [Numbered<PlanLine>],
+    domains: Domains<'a>,
+    loads: Pairs,
+    shadows: Pairs,
+    serial: Names,
+    binds: Binds,
+}
+
+impl<'a> Model for PlanTables<'a> {
+    ghost use Rattle.rl_defs.specs.declared.bundle.Bundle.{Bundle};
+    ghost use Rattle.indexmap.specs.IndexMap.{get};
+    ghost use Rattle.plan_checker.specs.Tables.{AreTables, bundle_with, same_pair};
+
+    ghost Value = { Bundle };
+
+    ghost view = { λ t. bundle_with t.domains.facts t.lines.now };
+
+    ghost invariant = { λ t. AreTables (bundle_with t.domains.facts t.lines.now) t.domains.names t.loads.names t.loads.others t.shadows.names t.shadows.others t.serial (λ q r. get same_pair t.binds (q, r)) };
+}
+
+fn put<'a>(domains: &mut Domains<'a>, facts: DomainFacts<'a>) -> Result<(), Memory>
+    requires { length domains.old.names < 2 ^ 31 }
+    ensures names { OnOk result (domains.new.names ≡ domains.old.names ++ names_of (given_by domain_given facts.entry)) }
+    ensures facts { OnOk result (domains.new.facts ≡ domains.old.facts ++ facts.entry ∷ []) }
+    ensures more { OnOk result (length domains.new.names ≡ length domains.old.names + 1) }
+{
+    domains.names.add(facts.name())?;
+    domains.facts.push(facts)
+}
+
+fn domains_of<'a>(alloc: Global, domains: &'a [CheckedDomain]) -> Result<Domains<'a>, Memory>
+    requires { length domains.now < 2 ^ 31 }
+    ensures names { IfOk result (λ d. d.names ≡ names_of (given_by domain_given (flat_map (λ x. x.lines) domains.now))) }
+    ensures facts { IfOk result (λ d. d.facts ≡ map (λ x. x.lines) domains.now) }
+{
+    let mut all = Domains {
+        names: Names::new(alloc),
+        facts: List::new(alloc),
+    };
+    'domains: for domain in domains {
+        let facts = DomainFacts::new(alloc, domain)?;
+        put(&mut all, facts)?;
+    }
+    Ok(all)
+}
+
+impl<'a> PlanTables<'a> {
+    /// The look-ups of a plan and of the domains of its bundle.
+    pub fn new(
+        alloc: Global,
+        domains: &'a [CheckedDomain],
+        lines: &'a [Numbered<PlanLine>],
+    ) -> Result<PlanTables<'a>, Memory>
+        requires domains { length domains.now < 2 ^ 31 }
+        requires lines { length lines.now < 2 ^ 31 }
+        ensures value { IfOk result (λ t. t ≡ plan_bundle domains.now lines.now) }
+        ensures names { IfOk result (λ _. HasLoadNames lines.now) }
+    {
+        let domains = domains_of(alloc, domains)?;
+        let loads = loads_of(alloc, lines)?;
+        let shadows = shadows_of(alloc, lines)?;
+        let serial = serial_of(alloc, lines)?;
+        let binds = binds_of(alloc, lines)?;
+        Ok(PlanTables {
+            lines,
+            domains,
+            loads,
+            shadows,
+            serial,
+            binds,
+        })
+    }
+
+    /// The lines of the plan.
+    pub fn lines(&self) -> &'a [Numbered<PlanLine>]
+        ensures { result.now ≡ self.now.plan.lines }
+    {
+        self.lines
+    }
+
+    /// The number of a domain, from 0.
+    pub fn domain_place(&self, name: &Name) -> Option<u32>
+        ensures { result ≡ place_of name.now (domain_names self.now) }
+    {
+        self.domains.names.place(name)
+    }
+
+    /// The domain of this name.
+    pub fn domain(&self, name: &Name) -> Option<&DomainFacts<'a>>
+        ensures { option_copied result ≡ lines_of_domain self.now name.now }
+    {
+        match self.domain_place(name) {
+            Some(place) => self.domains.facts.get(place as usize),
+            None => None,
+        }
+    }
+
+    /// The place of a load among the loads, from 0.
+    pub fn load_place(&self, load: &Name) -> Option<u32>
+        ensures value { result ≡ place_of load.now (load_names self.now) }
+        ensures few { IfSome result (λ place. place < 2 ^ 31) }
+    {
+        self.loads.names.place(load)
+    }
+
+    fn domain_of_load(&self, load: &Name) -> Option<&Name>
+        ensures { option_copied result ≡ domain_of_load self.now load.now }
+    {
+        match self.load_place(load) {
+            Some(place) => self.loads.others.get(place as usize),
+            None => None,
+        }
+    }
+
+    /// The domain of a load.
+    pub fn facts_of_load(&self, load: &Name) -> Option<&DomainFacts<'a>>
+        ensures { option_copied result ≡ lines_of_load self.now load.now }
+    {
+        match self.domain_of_load(load) {
+            Some(domain) => self.domain(domain),
+            None => None,
+        }
+    }
+
+    fn load_of_shadow(&self, target: &Name) -> Option<Name>
+        ensures { result ≡ load_of_shadow self.now.plan.lines target.now }
+    {
+        match self.shadows.names.place(target) {
+            Some(place) => self.shadows.others.get(place as usize).copied(),
+            None => None,
+        }
+    }
+
+    // The load of a target: a load is its own, and a shadow has the one that it stands for.
+    fn load_of_target(&self, target: &Name) -> Option<Name>
+        ensures { result ≡ load_of_target self.now target.now }
+    {
+        match self.load_place(target) {
+            Some(_) => Some(*target),
+            None => self.load_of_shadow(target),
+        }
+    }
+
+    /// The domain of a target's load.
+    pub fn facts_of_target(&self, target: &Name) -> Option<&DomainFacts<'a>>
+        ensures { option_copied result ≡ lines_of_target self.now target.now }
+    {
+        match self.load_of_target(target) {
+            Some(load) => self.facts_of_load(&load),
+            None => None,
+        }
+    }
+
+    /// The place of a target's load among the loads, from 0.
+    pub fn place_of_target(&self, target: &Name) -> Option<u32>
+        ensures { result ≡ place_of_target self.now target.now }
+    {
+        match self.load_of_target(target) {
+            Some(load) => self.load_place(&load),
+            None => None,
+        }
+    }
+
+    /// What the plan binds to an import of a load.
+    pub fn bound(&self, load: &Name, import: &Name) -> Option<&Name>
+        ensures { option_copied result ≡ bound_at self.now.plan.lines load.now import.now }
+    {
+        let key = (*load, *import);
+        self.binds.get(&key)
+    }
+
+    /// Whether a `serial` line names the load.
+    pub fn is_serial(&self, load: &Name) -> bool
+        ensures { result ≡ is_serial_in self.now load.now }
+    {
+        self.serial.place(load).is_some()
+    }
+
+    /// The number of a load, from 1. It is 0 where there is none.
+    pub fn load_number(&self, load: &Name) -> u32
+        ensures { result ≡ load_number self.now load.now }
+    {
+        match self.load_place(load) {
+            Some(place) => place + 1,
+            None => 0,
+        }
+    }
+
+    /// The number of a target: the loads are numbered from 1, and the shadows on after them. It is 0 where there is none.
+    pub fn target_number(&self, target: &Name) -> u32
+        ensures { result ≡ target_number self.now target.now }
+    {
+        if let Some(place) = self.load_place(target) {
+            return place + 1;
+        }
+        match self.shadows.names.place(target) {
+            Some(place) => self.loads.names.len() + place + 1,
+            None => 0,
+        }
+    }
+
+    /// The number of the target that an import of a load is bound to. It is 0 where none is.
+    pub fn number_bound(&self, load: &Name, import: &Name) -> u32
+        ensures { result ≡ target_number self.now (bound_to self.now load.now import.now) }
+    {
+        let _ = &self.lines;
+        match self.bound(load, import) {
+            Some(target) => self.target_number(target),
+            None => 0,
+        }
+    }
+}
