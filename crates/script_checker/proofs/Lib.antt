@@ -1,0 +1,9 @@
+pub mod Naming
+pub mod Gathering
+pub mod Fitting
+pub mod TargetLaws
+pub mod Keeping
+pub mod Scanning
+pub mod FirstLine
+pub mod Saying
+pub mod Scripts

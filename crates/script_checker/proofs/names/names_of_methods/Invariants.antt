@@ -1,0 +1,5 @@
+use Rattle.std.proofs.Common.{◌≡◌, ◌++◌, drop, map}
+use Rattle.script_checker.proofs.names.names_of_methods.Given as goal
+
+abbrev pub invariant-each : goal.invariant-each
+invariant-each l = l.names ++ map (λ s. s.name) (drop l.row-index l.methods) ≡ map (λ s. s.name) l.methods
