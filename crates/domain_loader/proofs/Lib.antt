@@ -1,0 +1,6 @@
+pub mod Composing
+pub mod Sizes
+pub mod Apart
+pub mod Loads
+pub mod Behind
+pub mod Accepting

@@ -1,0 +1,7 @@
+//! From the bytes of a bundle to the load that it stands for, or to the first rule that fails.
+#![tactic(auto)]
+
+mod bundle;
+mod domains;
+pub mod load;
+mod tables;
