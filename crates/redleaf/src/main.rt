@@ -1,10 +1,17 @@
-//! The program: it serves the words of its command line from standard input to standard output.
+//! The program: it serves the words of its command line from standard input to standard output, and tells on standard error what was
+//! refused.
 #![tactic(auto)]
 
-use redleaf_app::{Status, redleaf_calm};
+use redleaf_app::{LONGEST_BUNDLE, Status, redleaf_calm, refusal_in};
+use refusal_notes::keeping::{KeepingSink, KeepingSource};
+use refusal_notes::note::note;
 use rl_io::{StdSink, StdSource};
+use std::io::Write;
 use std::process::ExitCode;
 use std::{env, io};
+
+// No refusal is longer.
+const LONGEST_REFUSAL: usize = 64;
 
 fn main(rt: HostRuntime) -> ExitCode {
     ExitCode::from(serve(&rt).exit_status())
@@ -20,7 +27,28 @@ fn serve(rt: &HostRuntime) -> Status {
     let Ok(words) = args.skip(1).collect::<Vec<String>>(rt.alloc()) else {
         return Status::Memory;
     };
-    let mut source = StdSource::new(rt.stdin());
-    let mut sink = StdSink::new(rt.stdout());
-    redleaf_calm(rt.alloc(), &words, &mut source, &mut sink)
+    let mut source = KeepingSource::new(rt.alloc(), StdSource::new(rt.stdin()), LONGEST_BUNDLE);
+    let mut sink = KeepingSink::new(rt.alloc(), StdSink::new(rt.stdout()), LONGEST_REFUSAL);
+    let status = redleaf_calm(rt.alloc(), &words, &mut source, &mut sink);
+    if status == Status::Refused {
+        explain(rt, source.kept(), sink.kept());
+    }
+    status
+}
+
+/// Tells on standard error what was refused, by the bundle and by what was printed. Where that can't be told, nothing is.
+fn explain(rt: &HostRuntime, bundle: Option<&[u8]>, printed: Option<&[u8]>) {
+    let Some(printed) = printed else {
+        return;
+    };
+    let Some(at) = refusal_in(printed) else {
+        return;
+    };
+    let bundle = match bundle {
+        Some(bytes) if bytes.len() <= LONGEST_BUNDLE => Some(bytes),
+        _ => None,
+    };
+    if let Ok(text) = note(rt.alloc(), at, bundle) {
+        let _ = rt.stderr().write_all(&text);
+    }
 }

@@ -6,3 +6,4 @@ pub mod Histories
 pub mod KeptTallies
 pub mod Whole
 pub mod Words
+pub mod Refusals

@@ -1,6 +1,7 @@
 pub mod Digits
 pub mod Script
 pub mod Statuses
+pub mod Commands
 pub mod Outcomes
 pub mod Replies
 pub mod Tallies

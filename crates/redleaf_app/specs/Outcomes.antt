@@ -1,17 +1,18 @@
 -- What a call has read and written, by the way in which it ended. Bytes are spoken of where the source and the sink tell them.
-use Rattle.std.specs.Prelude.{◌≡◌, ℕ, ◌≤◌, ◌⊎◌, List, [], ◌∷◌, length, codes, Option}
+use Rattle.std.specs.Prelude.{◌≡◌, ℕ, ◌≤◌, ◌⊎◌, List, [], ◌∷◌, ◌++◌, length, codes, Option}
+use Rattle.std.specs.Fmt.{decimal}
 use Rattle.std.specs.Io.KnownBytes.{Appends, Consumes, IsAtEnd}
 use Rattle.rl_io.specs.Whole.{AppendsShort}
 use Rattle.rl_defs.specs.declared.load.Load.{Load}
 use Rattle.rl_defs.specs.declared.entry.Entry.{Entry}
 use Rattle.rl_defs.specs.State.{State}
 use Rattle.rl_defs.specs.Small.{Small}
+use Rattle.rl_defs.specs.Acceptance.{Accepted, First}
 use Rattle.rl_defs.specs.Run.{WholeRun, OrderRun}
 use Rattle.rl_defs.specs.Texts.{line, out_text}
-
--- the words of the one command there is
-abbrev pub run_words : List (List ℕ)
-run_words = codes "run" ∷ []
+use Rattle.redleaf_app.specs.declared.command.Command.{Command}
+use Rattle.redleaf_app.specs.declared.command.Command.TheVariants as command
+use Rattle.redleaf_app.specs.Commands.{words_of}
 
 -- The text is what a whole and ordered run of the load prints.
 pub record IsTextOfRun (load : Load) (text : List ℕ) : Type 0 where
@@ -21,47 +22,73 @@ pub record IsTextOfRun (load : Load) (text : List ℕ) : Type 0 where
   pub order : OrderRun load entries state
   pub is : text ≡ out_text load entries
 
--- The bytes are of the small form, and the text is that of a run of the load that they stand for.
-pub record IsAnswer (bytes text : List ℕ) : Type 0 where
+-- what is printed where a line is refused
+abbrev pub refusal_text : ℕ → ℕ → List ℕ
+refusal_text n rule = codes "refused line " ++ (decimal n ++ (codes " rule " ++ line (decimal rule)))
+
+-- `run`: the bytes are of the small form, and the text is that of a run of the load that they stand for.
+pub record WasRun (bytes text : List ℕ) : Type 0 where
   pub load : Load
   pub small : Small bytes load
   pub run : IsTextOfRun load text
 
--- what is printed where the input is refused
-abbrev pub refusal : List ℕ
-refusal = line (codes "refused line 0 rule 99")
-
--- The bytes are not of the small form, and the text is the refusal.
-pub record IsRefusal (bytes text : List ℕ) : Type 0 where
+-- `run`: the bytes are not of the small form, and no other is built.
+pub record IsNotBuilt (bytes text : List ℕ) : Type 0 where
   pub other : (load : Load) → Small bytes load → ⊥
-  pub is : text ≡ refusal
+  pub is : text ≡ refusal_text 0 99
 
--- All that the source had left was read, to its end: these bytes, at most so many.
-pub record ReadWhole (limit : ℕ) (left left' : Option (List ℕ)) (bytes : List ℕ) : Type 0 where
+-- `check`: no rule fails, and the bytes stand for a load.
+pub record IsAccepted (bytes text : List ℕ) : Type 0 where
+  pub load : Load
+  pub accepted : Accepted bytes load
+  pub is : text ≡ line (codes "accepted")
+
+-- `check`: this line is the first that a rule refuses, and this the lowest of these rules, in the first phase that refuses a line.
+pub record IsRefused (bytes text : List ℕ) : Type 0 where
+  pub line : ℕ
+  pub rule : ℕ
+  pub first : First bytes line rule
+  pub is : text ≡ refusal_text line rule
+
+-- what a command prints where it does what it is asked for, and where it refuses the bytes
+abbrev pub IsAnswer : Command → List ℕ → List ℕ → Type 0
+IsAnswer command.Run bytes text = WasRun bytes text
+IsAnswer command.Check bytes text = IsAccepted bytes text
+
+abbrev pub IsRefusal : Command → List ℕ → List ℕ → Type 0
+IsRefusal command.Run bytes text = IsNotBuilt bytes text
+IsRefusal command.Check bytes text = IsRefused bytes text
+
+-- All that the source had left was read, to its end: these bytes, at most so many. The words are of this command.
+pub record ReadWhole (limit : ℕ) (words : List (List ℕ)) (left left' : Option (List ℕ)) (of : Command) (bytes : List ℕ) : Type 0 where
+  pub asked : words ≡ words_of of
   pub came : Consumes left left' bytes
   pub end : IsAtEnd left'
   pub few : length bytes ≤ limit
 
--- All was read and is of the small form, and the whole text of its run was written.
-pub record WasDone (limit : ℕ) (left left' given given' : Option (List ℕ)) : Type 0 where
+-- All was read, and the whole text of the command's answer was written.
+pub record WasDone (limit : ℕ) (words : List (List ℕ)) (left left' given given' : Option (List ℕ)) : Type 0 where
+  pub command : Command
   pub bytes : List ℕ
   pub text : List ℕ
-  pub read : ReadWhole limit left left' bytes
-  pub answer : IsAnswer bytes text
+  pub read : ReadWhole limit words left left' command bytes
+  pub answer : IsAnswer command bytes text
   pub written : Appends given given' text
 
--- All was read and is not of the small form, and the whole refusal was written.
-pub record WasRefused (limit : ℕ) (left left' given given' : Option (List ℕ)) : Type 0 where
+-- All was read, and the whole refusal was written.
+pub record WasRefused (limit : ℕ) (words : List (List ℕ)) (left left' given given' : Option (List ℕ)) : Type 0 where
+  pub command : Command
   pub bytes : List ℕ
   pub text : List ℕ
-  pub read : ReadWhole limit left left' bytes
-  pub answer : IsRefusal bytes text
+  pub read : ReadWhole limit words left left' command bytes
+  pub answer : IsRefusal command bytes text
   pub written : Appends given given' text
 
 -- All was read, and a front of the text that answers it was written, but not the whole text.
-pub record WasCutOff (limit : ℕ) (left left' given given' : Option (List ℕ)) : Type 0 where
+pub record WasCutOff (limit : ℕ) (words : List (List ℕ)) (left left' given given' : Option (List ℕ)) : Type 0 where
+  pub command : Command
   pub bytes : List ℕ
   pub text : List ℕ
-  pub read : ReadWhole limit left left' bytes
-  pub answer : IsAnswer bytes text ⊎ IsRefusal bytes text
+  pub read : ReadWhole limit words left left' command bytes
+  pub answer : IsAnswer command bytes text ⊎ IsRefusal command bytes text
   pub written : AppendsShort given given' text

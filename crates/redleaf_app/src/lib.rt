@@ -3,7 +3,9 @@
 
 mod acts;
 mod calm;
-mod put;
+mod command;
+pub mod put;
+mod refusal;
 mod small;
 mod small_load;
 mod status;
@@ -13,4 +15,5 @@ mod tests;
 mod texts;
 
 pub use calm::{LONGEST_BUNDLE, redleaf_calm};
+pub use refusal::refusal_in;
 pub use status::Status;

@@ -63,7 +63,7 @@ fn number_of(digits: &[u8]) -> Option<u64>
 }
 
 // The number at the front, in its one spelling, and what follows its last digit.
-fn number_at(bytes: &[u8]) -> Option<(u64, &[u8])>
+pub(crate) fn number_at(bytes: &[u8]) -> Option<(u64, &[u8])>
     ensures found { IfSome result (λ r. (bytes.now ≡ decimal r.0 ++ r.1.now) × (r.0 < 2 ^ 64) × NoDigit r.1.now) }
     ensures none { IfNone result ((n : ℕ) (rest : List ℕ) → n < 2 ^ 64 → NoDigit rest → bytes.now ≢ decimal n ++ rest) }
 {
@@ -72,7 +72,7 @@ fn number_at(bytes: &[u8]) -> Option<(u64, &[u8])>
 }
 
 // What follows a text at the front.
-fn after<'a>(bytes: &'a [u8], text: &[u8]) -> Option<&'a [u8]>
+pub(crate) fn after<'a>(bytes: &'a [u8], text: &[u8]) -> Option<&'a [u8]>
     ensures { MatchOption result ((rest : List ℕ) → bytes.now ≢ text.now ++ rest) (λ r. bytes.now ≡ text.now ++ r.now) }
 {
     bytes.strip_prefix(text)
