@@ -66,18 +66,26 @@ impl Declared {
         ))
     }
 
-    // Takes one line more, and tells whether it gives a name again.
+    // Takes one line more, and tells whether it gives a name again. Most lines are code, which gives none.
     fn pass(&mut self, alloc: Global, line: &DomainLine) -> Result<bool, Memory>
         requires { HasSpace self.old }
         ensures behind { OnOk result (self.new ≡ declared_behind line.now self.old) }
         ensures repeats { IfOk result (λ again. again ≡ is_given_again line.now self.old) }
     {
-        let domain = pass(alloc, &mut self.domains, domain_role(line))?;
-        let slot = pass(alloc, &mut self.slots, slot_role(line))?;
-        let import = pass(alloc, &mut self.imports, import_role(line))?;
-        let function = pass(alloc, &mut self.functions, function_role(line))?;
-        let label = pass(alloc, &mut self.labels, label_role(line))?;
-        Ok(domain || (slot || (import || (function || label))))
+        match line {
+            DomainLine::Code(_) | DomainLine::Words(_) | DomainLine::Native(_) => Ok(false),
+            DomainLine::Head(_, _) | DomainLine::Close => {
+                pass(alloc, &mut self.labels, label_role(line))
+            }
+            DomainLine::Domain(_, _) => pass(alloc, &mut self.domains, domain_role(line)),
+            DomainLine::Slot(_, _) => pass(alloc, &mut self.slots, slot_role(line)),
+            DomainLine::Import(_, _) => pass(alloc, &mut self.imports, import_role(line)),
+            DomainLine::Function(_) => {
+                let function = pass(alloc, &mut self.functions, function_role(line))?;
+                let label = pass(alloc, &mut self.labels, label_role(line))?;
+                Ok(function || label)
+            }
+        }
     }
 }
 

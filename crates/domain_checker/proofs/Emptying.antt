@@ -1,5 +1,6 @@
 -- The registers that are emptied on a way.
 use Rattle.std.proofs.Common.{◌≡◌, ◌≢◌, refl, ap, sym, ◌∙◌, ◌⊎◌, inl, inr, ℕ, zero, suc, ◌+◌, ◌<◌, ◌==◌, nat_lt, ◌&&◌, ◌||◌, not, Bool, true, false, List, [], ◌∷◌, ◌++◌, length, drop, get_or, set, Option, None, Some, if◌then◌else◌, slice_range, arith, length-append, append_assoc, zero-add}
+use Rattle.std.specs.List.{list_any, list_all, fold}
 use Rattle.std.proofs.lemmas.List.{ext_get_or, length-set, get_or-set_other, append-nil}
 use Rattle.std.proofs.lemmas.List.Folds.{drop_split, list_any-append}
 use Rattle.std.proofs.Math.Seq.{drop-append_seam, drop-length}
@@ -13,12 +14,13 @@ use Rattle.rl_defs.specs.declared.code.RegKind.{RegKind}
 use Rattle.rl_defs.specs.declared.code.RegKind.TheVariants as kind
 use Rattle.rl_defs.specs.declared.tables.Tables.{Tables}
 use Rattle.rl_defs.specs.Domains.{Lines}
-use Rattle.rl_defs.specs.CodeKinds.{Kinds}
+use Rattle.rl_defs.specs.CodeKinds.{Kinds, is_own}
+use Rattle.rl_defs.specs.CodeRules.{owns_nothing}
 use Rattle.rl_defs.specs.Instructions.{Registers, is_listed}
 use Rattle.rl_defs.specs.CodeFits.{Typing, fits_kind, Fits}
 use Rattle.rl_defs.specs.LineRows.{emptied, Leads}
 use Rattle.domain_checker.specs.declared.ways.Run.{Run}
-use Rattle.domain_checker.specs.Heads.{is_in, all_registers, run_at, keep_in, holds_some, is_emptied, Puts, Grows}
+use Rattle.domain_checker.specs.Heads.{is_in, all_registers, run_at, keep_in, holds_some, holds_any, is_emptied, Puts, Grows}
 use Rattle.domain_checker.proofs.Passing.{length-keep_in, through_run}
 use Rattle.domain_checker.proofs.SetLaws.{in_all}
 
@@ -174,3 +176,50 @@ puts_same kinds s n old new puts kept = record {
 
 pub puts_grows : (kinds : Kinds) (s n : ℕ) (old new : List Register) → Puts kinds s n old new → Grows n old new
 puts_grows kinds s n old new puts = record { added = puts.added; behind = puts.behind; few = puts.few }
+
+-- no register holds anything
+none_hold : (kinds : Kinds) (r : ℕ) → list_any holds_some kinds ≡ false → holds_some (get_or kinds r kind.Empty) ≡ false
+none_hold [] r e = refl
+none_hold (k ∷ kinds) zero e = first (holds_some k) (list_any holds_some kinds) e where
+  first : (a b : Bool) → (a || b) ≡ false → a ≡ false
+  first true b h = absurd cc
+  first false b h = refl
+none_hold (k ∷ kinds) (suc r) e = none_hold kinds r (rest (holds_some k) (list_any holds_some kinds) e) where
+  rest : (a b : Bool) → (a || b) ≡ false → b ≡ false
+  rest true b h = absurd cc
+  rest false b h = h
+
+or_all : (a b c : Bool) → ((a || b) || c) ≡ (a || (b || c))
+or_all true b c = refl
+or_all false b c = refl
+
+or_none : (a : Bool) → a ≡ (a || false)
+or_none true = refl
+or_none false = refl
+
+-- a test of each, put together
+fold_any : {A : Type 0} (p : A → Bool) (found : Bool) (xs : List A) → fold (λ f x. f || p x) found xs ≡ (found || list_any p xs)
+fold_any p found [] = or_none found
+fold_any p found (x ∷ xs) = fold_any p (found || p x) xs ∙ or_all found (p x) (list_any p xs)
+
+pub puts_empty : (kinds : Kinds) (s : ℕ) (old : List Register) → holds_any kinds ≡ false → Puts kinds s 32 old old
+puts_empty kinds s old e = record {
+  added = [];
+  behind = sym (append-nil old);
+  few = omega arith;
+  are = λ r. none_at (nat_lt r 32) (not (is_in s r)) (holds_some (get_or kinds r kind.Empty)) (none_hold kinds r (sym (fold_any holds_some false kinds) ∙ e));
+} where
+  none_at : (a b c : Bool) → c ≡ false → false ≡ (a && (c && b))
+  none_at true b c h = rw h refl
+  none_at false b c h = refl
+
+none_each : (kinds : Kinds) → not (list_any is_own kinds) ≡ list_all (λ k. not (is_own k)) kinds
+none_each [] = refl
+none_each (k ∷ kinds) = both (is_own k) (list_any is_own kinds) (list_all (λ x. not (is_own x)) kinds) (none_each kinds) where
+  both : (a b c : Bool) → not b ≡ c → not (a || b) ≡ (not a && c)
+  both true b c e = refl
+  both false b c e = e
+
+-- no register holds an own object
+pub none_owned : (kinds : Kinds) → not (fold (λ found k. found || is_own k) false kinds) ≡ owns_nothing kinds
+none_owned kinds = ap not (fold_any is_own false kinds) ∙ none_each kinds

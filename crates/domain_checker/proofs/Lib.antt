@@ -13,6 +13,7 @@ pub mod Emptying
 pub mod Runs
 pub mod PoolLaws
 pub mod RowLaws
+pub mod Plain
 pub mod Labels
 pub mod Scanning
 pub mod Entering

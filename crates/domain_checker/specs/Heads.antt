@@ -1,5 +1,5 @@
 -- What heads do to the registers of a frame on its way.
-use Rattle.std.specs.Prelude.{◌≡◌, ℕ, ◌+◌, ◌-◌, ◌^◌, ◌≤◌, ◌==◌, nat_lt, ◌&&◌, not, Bool, true, false, List, [], ◌∷◌, ◌++◌, length, drop, fold, None, Some, if◌then◌else◌, slice_get, bit_and}
+use Rattle.std.specs.Prelude.{◌≡◌, ℕ, ◌+◌, ◌-◌, ◌^◌, ◌≤◌, ◌==◌, nat_lt, ◌&&◌, ◌||◌, not, Bool, true, false, List, [], ◌∷◌, ◌++◌, length, drop, fold, None, Some, if◌then◌else◌, slice_get, bit_and}
 use Rattle.std.specs.Int.{bit_at}
 use Rattle.std.specs.Int.RustNames.{bit_or}
 use Rattle.std.specs.List.{slice_index_or}
@@ -43,6 +43,10 @@ pub record AreRuns (lines : Lines) (runs : List Run) : Type 0 where
 abbrev pub holds_some : RegKind → Bool
 holds_some kind.Empty = false
 holds_some _ = true
+
+-- some register holds something
+abbrev pub holds_any : Kinds → Bool
+holds_any kinds = fold (λ found k. found || holds_some k) false kinds
 
 abbrev pub is_emptied : ℕ → RegKind → ℕ → Bool
 is_emptied set k r = holds_some k && not (is_in set r)

@@ -2,6 +2,7 @@ pub mod Numbering
 pub mod Scopes
 pub mod Knowing
 pub mod Lowest
+pub mod Plain
 pub mod Shapes
 pub mod OneStruct
 pub mod Heads

@@ -144,7 +144,7 @@ fn kinds_at_entry(scope: &Scope, name: &Name) -> Kinds
     kinds
 }
 
-// The kinds behind an instruction, where control goes on at the next line.
+// The kinds behind an instruction that may move objects, where control goes on at the next line.
 fn kinds_behind_instr(scope: &Scope, kinds: &Kinds, instr: &Instr) -> Kinds
     ensures { result ≡ after scope.now kinds.now instr.now }
 {
@@ -154,19 +154,39 @@ fn kinds_behind_instr(scope: &Scope, kinds: &Kinds, instr: &Instr) -> Kinds
     next
 }
 
-/// The kinds behind a line.
-pub fn kinds_behind(scope: &Scope, kinds: &Kinds, form: &DomainLine) -> Kinds
-    ensures { result ≡ after_line scope.now kinds.now form.now }
+// The kinds become those behind an instruction. Most instructions move no object and write one register at most.
+fn pass_instr(kinds: &mut Kinds, scope: &Scope, instr: &Instr)
+    ensures { kinds.new ≡ after scope.now kinds.old instr.now }
+{
+    match instr {
+        Instr::Const(a, _)
+        | Instr::Math(_, a, _, _)
+        | Instr::Get(a, _, _)
+        | Instr::Wget(a, _)
+        | Instr::Has(a, _)
+        | Instr::DevSize(a) => put_kind(kinds, *a, RegKind::Num),
+        Instr::Copy(a, b) => {
+            let kind = kind_in(kinds, *b);
+            put_kind(kinds, *a, kind);
+        }
+        Instr::Jmp(_) | Instr::Jz(_, _) | Instr::Set(_, _, _) | Instr::Wput(_, _) | Instr::Trap =>
+            {}
+        _ => *kinds = kinds_behind_instr(scope, kinds, instr),
+    }
+}
+
+/// The kinds become those behind a line.
+pub fn pass_line(kinds: &mut Kinds, scope: &Scope, form: &DomainLine)
+    ensures { kinds.new ≡ after_line scope.now kinds.old form.now }
 {
     match form {
-        DomainLine::Function(name) => kinds_at_entry(scope, name),
+        DomainLine::Function(name) => *kinds = kinds_at_entry(scope, name),
         DomainLine::Head(_, items) => {
-            let mut next = no_kinds();
-            put_listed(&mut next, scope.tables(), items.as_slice());
-            next
+            *kinds = no_kinds();
+            put_listed(kinds, scope.tables(), items.as_slice());
         }
-        DomainLine::Code(instr) => kinds_behind_instr(scope, kinds, instr),
-        _ => *kinds,
+        DomainLine::Code(instr) => pass_instr(kinds, scope, instr),
+        _ => {}
     }
 }
 

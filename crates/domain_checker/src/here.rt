@@ -1,5 +1,5 @@
 //! What is known before a line.
-ghost use Rattle.std.specs.Prelude.{◌≡◌, ◌+◌, ◌≤◌, ◌<◌, Some, length, slice_get, nat_eq, unwrap_or, IfOk, IfSome};
+ghost use Rattle.std.specs.Prelude.{◌≡◌, ◌≢◌, ℕ, ◌+◌, ◌≤◌, ◌<◌, List, Some, length, slice_get, nat_eq, unwrap_or, IfSome, OnOk};
 ghost use Rattle.std.specs.Cmp.Lexicographic.{pointwise};
 ghost use Rattle.indexmap.specs.IndexMap.{get};
 ghost use Rattle.rl_defs.specs.declared.code.DomainLine.TheVariants as Form;
@@ -10,7 +10,7 @@ ghost use Rattle.rl_defs.specs.Instructions.{label_of_form};
 ghost use Rattle.domain_checker.specs.Knowing.{Known};
 
 use crate::declared::labels_from;
-use crate::effects::{kinds_behind, results_of};
+use crate::effects::{pass_line, results_of};
 use crate::jumps::goes_on;
 use crate::kinds::{Kinds, no_kinds};
 use crate::names::NameTable;
@@ -102,17 +102,17 @@ pub fn first<'a>(alloc: Global, scope: &'a Scope<'a>) -> Here<'a>
     }
 }
 
-// The first line of a function.
-fn enter<'a>(
+// Goes on to the first line of a function.
+fn enter(
     alloc: Global,
-    here: &Here<'a>,
+    here: &mut Here,
     line: &Numbered<DomainLine>,
     name: &Name,
-) -> Result<Here<'a>, Memory>
-    requires here { slice_get here.now.scope.now.lines here.now.place ≡ Some line.now }
+) -> Result<(), Memory>
+    requires here { slice_get here.old.scope.now.lines here.old.place ≡ Some line.now }
     requires name { line.now.form ≡ Form.Function name.now }
-    ensures scope { IfOk result (λ next. next.scope.now ≡ here.now.scope.now) }
-    ensures place { IfOk result (λ next. next.place ≡ here.now.place + 1) }
+    ensures scope { OnOk result (here.new.scope.now ≡ here.old.scope.now) }
+    ensures place { OnOk result (here.new.place ≡ here.old.place + 1) }
 {
     let scope = here.scope;
     let place = here.place + 1;
@@ -121,59 +121,60 @@ fn enter<'a>(
     let number = tables.method_number(of, name).unwrap_or(0);
     let method = tables.method_named(of, name);
     let labels = labels_from(alloc, scope.lines(), place)?;
-    Ok(Here {
-        scope,
-        place,
-        kinds: kinds_behind(scope, &here.kinds, &line.form),
-        reached: goes_on(&line.form),
-        inside: true,
-        number,
-        results: results_of(method),
-        labels,
-    })
+    pass_line(&mut here.kinds, scope, &line.form);
+    here.place = place;
+    here.reached = goes_on(&line.form);
+    here.inside = true;
+    here.number = number;
+    here.results = results_of(method);
+    here.labels = labels;
+    Ok(())
 }
 
-// The line behind a `}`.
-fn leave<'a>(alloc: Global, here: &Here<'a>, line: &Numbered<DomainLine>) -> Here<'a>
-    requires here { slice_get here.now.scope.now.lines here.now.place ≡ Some line.now }
+// Goes on to the line behind a `}`.
+fn leave(alloc: Global, here: &mut Here, line: &Numbered<DomainLine>)
+    requires here { slice_get here.old.scope.now.lines here.old.place ≡ Some line.now }
     requires close { line.now.form ≡ Form.Close }
-    ensures scope { result.scope.now ≡ here.now.scope.now }
-    ensures place { result.place ≡ here.now.place + 1 }
+    ensures scope { here.new.scope.now ≡ here.old.scope.now }
+    ensures place { here.new.place ≡ here.old.place + 1 }
 {
-    Here {
-        scope: here.scope,
-        place: here.place + 1,
-        kinds: kinds_behind(here.scope, &here.kinds, &line.form),
-        reached: goes_on(&line.form),
-        inside: false,
-        number: 0,
-        results: &[],
-        labels: IndexMap::new(alloc),
-    }
+    pass_line(&mut here.kinds, here.scope, &line.form);
+    here.place += 1;
+    here.reached = goes_on(&line.form);
+    here.inside = false;
+    here.number = 0;
+    here.results = &[];
+    here.labels = IndexMap::new(alloc);
 }
 
-/// The next line.
-pub fn next<'a>(
-    alloc: Global,
-    here: Here<'a>,
-    line: &Numbered<DomainLine>,
-) -> Result<Here<'a>, Memory>
-    requires { slice_get here.scope.now.lines here.place ≡ Some line.now }
-    ensures scope { IfOk result (λ next. next.scope.now ≡ here.entry.scope.now) }
-    ensures place { IfOk result (λ next. next.place ≡ here.entry.place + 1) }
+// Behind a line that begins or ends no function.
+fn go_on(here: &mut Here, line: &Numbered<DomainLine>)
+    requires here { slice_get here.old.scope.now.lines here.old.place ≡ Some line.now }
+    requires no_function { (name : List ℕ) → line.now.form ≢ Form.Function name }
+    requires no_close { line.now.form ≢ Form.Close }
+    ensures scope { here.new.scope.now ≡ here.old.scope.now }
+    ensures place { here.new.place ≡ here.old.place + 1 }
+{
+    pass_line(&mut here.kinds, here.scope, &line.form);
+    here.reached = goes_on(&line.form);
+    here.place += 1;
+}
+
+/// Goes on to the next line.
+pub fn next(alloc: Global, here: &mut Here, line: &Numbered<DomainLine>) -> Result<(), Memory>
+    requires { slice_get here.old.scope.now.lines here.old.place ≡ Some line.now }
+    ensures scope { OnOk result (here.new.scope.now ≡ here.old.scope.now) }
+    ensures place { OnOk result (here.new.place ≡ here.old.place + 1) }
 {
     match &line.form {
-        DomainLine::Function(name) => enter(alloc, &here, line, name),
-        DomainLine::Close => Ok(leave(alloc, &here, line)),
-        _ => Ok(Here {
-            scope: here.scope,
-            place: here.place + 1,
-            kinds: kinds_behind(here.scope, &here.kinds, &line.form),
-            reached: goes_on(&line.form),
-            inside: here.inside,
-            number: here.number,
-            results: here.results,
-            labels: here.labels,
-        }),
+        DomainLine::Function(name) => enter(alloc, here, line, name),
+        DomainLine::Close => {
+            leave(alloc, here, line);
+            Ok(())
+        }
+        _ => {
+            go_on(here, line);
+            Ok(())
+        }
     }
 }

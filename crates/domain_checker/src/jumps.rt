@@ -2,7 +2,7 @@
 ghost use Rattle.std.specs.Prelude.{◌≡◌, ℕ, length, drop, map};
 ghost use Rattle.std.specs.List.{list_all};
 ghost use Rattle.rl_defs.specs.CodeKinds.{Kinds as KindList, at_label, listed, kind_in};
-ghost use Rattle.rl_defs.specs.CodeRules.{same_kind, without, enters, enters_at, enters_label, enters_head, place_of_label, names_label, goes_on, ends_before};
+ghost use Rattle.rl_defs.specs.CodeRules.{same_kind, without, owns_nothing, enters, enters_at, enters_label, enters_head, place_of_label, names_label, goes_on, ends_before};
 ghost use Rattle.rl_defs.specs.Instructions.{label_of_form};
 ghost use Rattle.rl_defs.specs.DomainParts.{ends};
 
@@ -37,16 +37,25 @@ fn empty_listed(kinds: &mut Kinds, items: &[HeadItem])
     }
 }
 
+// Whether no register beside those that a head lists holds an own object. Some heads list none.
+fn owns_nothing_beside(items: &[HeadItem], kinds: &Kinds) -> bool
+    ensures { result ≡ owns_nothing (without (map (λ item. item.register) items.now) kinds.now) }
+{
+    match items {
+        [] => owns_nothing(kinds),
+        _ => {
+            let mut others = *kinds;
+            empty_listed(&mut others, items);
+            owns_nothing(&others)
+        }
+    }
+}
+
 // Whether registers of these kinds may enter a head.
 fn enters(scope: &Scope, items: &[HeadItem], kinds: &Kinds) -> bool
     ensures { result ≡ enters scope.now items.now kinds.now }
 {
-    if !are_listed(scope.tables(), items, kinds) {
-        return false;
-    }
-    let mut others = *kinds;
-    empty_listed(&mut others, items);
-    owns_nothing(&others)
+    are_listed(scope.tables(), items, kinds) && owns_nothing_beside(items, kinds)
 }
 
 // Whether registers of these kinds may enter the head at a place.

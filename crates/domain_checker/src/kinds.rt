@@ -1,5 +1,5 @@
 //! The kinds of the registers before and behind a line.
-ghost use Rattle.std.specs.Prelude.{◌≡◌, ℕ, ◌≤◌, length, drop, map};
+ghost use Rattle.std.specs.Prelude.{◌≡◌, ℕ, ◌≤◌, ◌||◌, false, length, drop, fold, map};
 ghost use Rattle.std.specs.List.{list_all};
 ghost use Rattle.rl_defs.specs.CodeKinds.{no_kinds, kind_in, with_kind, is_own, leave, leave_all, passed, left, as_register, paired, put_all, put_from};
 ghost use Rattle.rl_defs.specs.CodeRules.{same_kind, owns_nothing};
@@ -107,16 +107,21 @@ pub fn leave_moved(kinds: &mut Kinds, instr: &Instr)
     }
 }
 
+// Whether a register holds an own object. It goes over all of them, since a loop without an early end takes several at a time.
+fn owns_any(kinds: &Kinds) -> bool
+    ensures { result ≡ fold (λ found k. found || is_own k) false kinds.now }
+{
+    kinds
+        .iter()
+        .fold(false, |found, kind| found | is_own(*kind))
+}
+
 /// Whether no register holds an own object.
+#[tactic(auto, using(crate::proofs::Emptying::none_owned))]
 pub fn owns_nothing(kinds: &Kinds) -> bool
     ensures { result ≡ owns_nothing kinds.now }
 {
-    'kinds: for kind in kinds {
-        if is_own(*kind) {
-            return false;
-        }
-    }
-    true
+    !owns_any(kinds)
 }
 
 /// Values of the listed kinds stand in these registers, one after the other.

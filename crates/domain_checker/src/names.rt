@@ -1,7 +1,7 @@
 //! Numbers by names.
-ghost use Rattle.std.specs.Prelude.{◌≡◌, ℕ, ◌^◌, ◌<◌, ◌≤◌, List, [], None, map, length, drop, nat_eq, IsTrue, OnOk, IfOk};
+ghost use Rattle.std.specs.Prelude.{◌≡◌, ℕ, ◌^◌, ◌<◌, ◌≤◌, List, [], None, Some, map, length, drop, nat_eq, IsTrue, OnOk, IfOk};
 ghost use Rattle.std.specs.Cmp.Lexicographic.{pointwise};
-ghost use Rattle.indexmap.specs.IndexMap.{get};
+ghost use Rattle.indexmap.specs.IndexMap.{get, Updates};
 ghost use Rattle.rl_defs.specs.Words.{is_name};
 ghost use Rattle.rl_defs.specs.Interfaces.{place_of};
 ghost use Rattle.domain_checker.specs.Numbering.{noted};
@@ -15,15 +15,23 @@ use std::alloc::Global;
 /// Numbers by names.
 pub type NameTable = IndexMap<Name, u32>;
 
-/// Notes a name with its number, unless it is there.
+// Gives a name that is there another number.
+fn put_back(table: &mut NameTable, name: &Name, number: u32) -> Result<(), Memory>
+    ensures { OnOk result (Updates (pointwise nat_eq) table.old table.new name.now (Some number)) }
+{
+    match table.insert(*name, number) {
+        Ok(_) => Ok(()),
+        Err(_) => Err(Memory),
+    }
+}
+
+/// Notes a name with its number, unless it is there. Most names are new, so it is put first, and put back where it was there.
 pub fn note(table: &mut NameTable, name: &Name, number: u32) -> Result<(), Memory>
     ensures noted { OnOk result ((q : List ℕ) → get (pointwise nat_eq) table.new q ≡ noted (get (pointwise nat_eq) table.old) name.now number q) }
 {
-    if table.get(name).is_some() {
-        return Ok(());
-    }
     match table.insert(*name, number) {
-        Ok(_) => Ok(()),
+        Ok(None) => Ok(()),
+        Ok(Some(earlier)) => put_back(table, name, earlier),
         Err(_) => Err(Memory),
     }
 }

@@ -12,6 +12,7 @@ use crate::effects::kinds_at_label;
 use crate::here::{Here, target};
 use crate::kinds::{Kinds, kind_in};
 use crate::operands::object_struct;
+use crate::rules::is_plain;
 use crate::ways::Ways;
 use rl_defs::Memory;
 use rl_defs::bundle::Numbered;
@@ -91,6 +92,19 @@ fn jump_way(
     }
 }
 
+// The row of a line that names nothing.
+fn bare_row(way: Way) -> LineRow
+    ensures { result ≡ record { number = 0; of = 0; label = 0; here = way; jump = way } }
+{
+    LineRow {
+        number: 0,
+        of: 0,
+        label: 0,
+        here: way,
+        jump: way,
+    }
+}
+
 // The row of a line.
 fn row_of(
     ways: &Ways,
@@ -104,6 +118,9 @@ fn row_of(
     ensures grows { OnOk result (Grows 64 emptied.old.items emptied.new.items) }
 {
     let way = ways.way(emptied, &here.kinds, here.place)?;
+    if is_plain(&line.form) {
+        return Ok(bare_row(way));
+    }
     match &line.form {
         DomainLine::Code(instr) => {
             let to = target(here, &line.form);
@@ -116,13 +133,7 @@ fn row_of(
                 jump,
             })
         }
-        _ => Ok(LineRow {
-            number: 0,
-            of: 0,
-            label: 0,
-            here: way,
-            jump: way,
-        }),
+        _ => Ok(bare_row(way)),
     }
 }
 

@@ -1,6 +1,7 @@
 //! The rules of domain code at one line.
 ghost use Rattle.std.specs.Prelude.{◌≡◌};
 ghost use Rattle.rl_defs.specs.CodeRules.{breaks};
+ghost use Rattle.domain_checker.specs.Plain.{is_plain};
 ghost use Rattle.domain_checker.specs.Lowest.{lowest, from_30, from_31, from_32, from_34, from_35, from_36, from_37, IsLowest};
 
 use crate::claims::{
@@ -10,7 +11,7 @@ use crate::here::{Here, target};
 use crate::jumps::{ends_before, enters_head, enters_label, names_label};
 use crate::moves::{leaves_nothing, moves_once, moves_or_lends, spares_objects};
 use crate::operands::{has_apart, has_cell, has_kinds};
-use rl_defs::code::DomainLine;
+use rl_defs::code::{DomainLine, Instr};
 
 fn from_37(here: &Here, form: &DomainLine) -> Option<u8>
     ensures { result ≡ lowest (from_37 here.now.scope.now here.now.place form.now) }
@@ -68,11 +69,26 @@ fn from_32(here: &Here, form: &DomainLine) -> Option<u8>
     from_34(here, form)
 }
 
+/// Whether a line is register work that names nothing, moves no object and goes to no label. Most lines are: they keep the rules from
+/// 32 on, and their rows name nothing.
+pub fn is_plain(form: &DomainLine) -> bool
+    ensures { result ≡ is_plain form.now }
+{
+    matches!(
+        form,
+        DomainLine::Code(Instr::Const(..) | Instr::Copy(..) | Instr::Math(..) | Instr::Get(..))
+    )
+}
+
+#[tactic(auto, using(crate::proofs::Plain::plain_keeps))]
 fn from_31(here: &Here, form: &DomainLine) -> Option<u8>
     ensures { result ≡ lowest (from_31 here.now.scope.now here.now.place here.now.kinds form.now) }
 {
     if !spares_objects(&here.kinds, form) || !leaves_nothing(&here.kinds, form) {
         return Some(31);
+    }
+    if is_plain(form) {
+        return None;
     }
     from_32(here, form)
 }

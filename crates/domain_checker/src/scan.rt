@@ -27,8 +27,11 @@ pub fn scan(alloc: Global, scope: &Scope, ways: &Ways) -> Result<Kept, LoadFault
     ensures { Answers (FailsCode scope.now) (λ kept. AreRows scope.now kept.emptied.items kept.rows.items (length scope.now.lines)) result }
 {
     let lines = scope.lines();
+    let Ok(rows) = Vec::with_capacity(alloc, lines.len()) else {
+        return Err(LoadFault::Memory);
+    };
     let mut kept = Kept {
-        rows: Vec::new(alloc),
+        rows,
         emptied: Vec::new(alloc),
     };
     let mut here = first(alloc, scope);
@@ -40,10 +43,9 @@ pub fn scan(alloc: Global, scope: &Scope, ways: &Ways) -> Result<Kept, LoadFault
         let Ok(_) = keep(&mut kept, ways, &here, line) else {
             return Err(LoadFault::Memory);
         };
-        let Ok(there) = next(alloc, here, line) else {
+        let Ok(_) = next(alloc, &mut here, line) else {
             return Err(LoadFault::Memory);
         };
-        here = there;
     }
     Ok(kept)
 }

@@ -3,7 +3,7 @@ ghost use Rattle.std.specs.Prelude.{◌≡◌, ℕ, ◌^◌, ◌<◌, length, fo
 ghost use Rattle.rl_defs.specs.declared.tables.Tables.{Tables};
 ghost use Rattle.rl_defs.specs.LineRows.{Leads};
 ghost use Rattle.rl_defs.specs.Checked.{IsWithin};
-ghost use Rattle.domain_checker.specs.Heads.{is_in, with_items, run_form, AreRuns, is_emptied, holds_some, Puts, Grows};
+ghost use Rattle.domain_checker.specs.Heads.{is_in, with_items, run_form, AreRuns, is_emptied, holds_some, holds_any, Puts, Grows};
 
 use rl_defs::Memory;
 use rl_defs::bundle::Numbered;
@@ -107,7 +107,10 @@ fn runs_of(alloc: Global, lines: &[Numbered<DomainLine>]) -> Result<List<Run>, M
     ensures one_each { IfOk result (λ runs. length runs ≡ length lines.now) }
     ensures right { IfOk result (AreRuns lines.now) }
 {
-    let mut runs = List::new(alloc);
+    let Ok(room) = Vec::with_capacity(alloc, lines.len()) else {
+        return Err(Memory);
+    };
+    let mut runs = List::from_vec(room);
     let mut next = Run {
         line: lines.len() as u32,
         listed: u32::MAX,
@@ -139,6 +142,15 @@ fn is_emptied(set: u32, kind: RegKind, number: u8) -> bool
     holds_some(kind) && !is_in(set, number)
 }
 
+// Whether a register holds something. It goes over all of them, since a loop without an early end takes several at a time.
+fn holds_any(kinds: &[RegKind; 32]) -> bool
+    ensures { result ≡ holds_any kinds.now }
+{
+    kinds
+        .iter()
+        .fold(false, |found, kind| found | holds_some(*kind))
+}
+
 // Puts the registers that hold something and that aren't in the set last in the pool.
 fn put_emptied(pool: &mut Vec<Register>, kinds: &[RegKind; 32], set: u32) -> Result<(), Memory>
     ensures { OnOk result (Puts kinds.now set 32 pool.old.items pool.new.items) }
@@ -154,11 +166,14 @@ fn put_emptied(pool: &mut Vec<Register>, kinds: &[RegKind; 32], set: u32) -> Res
     Ok(())
 }
 
-// The same of a set that mostly has all registers, since most lines are no heads: then none is put.
+// The same of a set that mostly has all registers, since most lines are no heads, and of registers that may hold nothing: then none is put.
 fn put_unlisted(pool: &mut Vec<Register>, kinds: &[RegKind; 32], set: u32) -> Result<(), Memory>
     ensures { OnOk result (Puts kinds.now set 32 pool.old.items pool.new.items) }
 {
     if set == u32::MAX {
+        return Ok(());
+    }
+    if !holds_any(kinds) {
         return Ok(());
     }
     put_emptied(pool, kinds, set)

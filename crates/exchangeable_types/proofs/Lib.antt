@@ -6,6 +6,7 @@ pub mod Stack
 pub mod Starts
 pub mod Searches
 pub mod RowLaws
+pub mod Nests
 pub mod RowSteps
 pub mod Checks
 pub mod TypesOnce

@@ -84,7 +84,7 @@ scan_number lines seen waiting number h = omega (arith, h.count, h.below number 
 split_more : (lines : Lines) (number at : ℕ) (passed : List TypeText) (ty : TypeText) → types_at lines number ≡ passed ++ types_of (fields_of (drop at lines)) → field_type (slice_get lines at) ≡ Some ty → types_at lines number ≡ passed ++ (ty ∷ types_of (fields_of (drop (at + 1) lines)))
 split_more lines number at passed ty split f = split ∙ ap (λ (xs : List TypeText). passed ++ xs) (fields_more lines at ty f)
 
-field_here : (lines : Lines) (number at : ℕ) (passed : List TypeText) (ty : TypeText) → types_at lines number ≡ passed ++ types_of (fields_of (drop at lines)) → field_type (slice_get lines at) ≡ Some ty → slice_get (types_at lines number) (length passed) ≡ Some ty
+pub field_here : (lines : Lines) (number at : ℕ) (passed : List TypeText) (ty : TypeText) → types_at lines number ≡ passed ++ types_of (fields_of (drop at lines)) → field_type (slice_get lines at) ≡ Some ty → slice_get (types_at lines number) (length passed) ≡ Some ty
 field_here lines number at passed ty split f = subst (λ (xs : List TypeText). slice_get xs (length passed) ≡ Some ty) (sym (split_more lines number at passed ty split f)) (get_seam passed ty (types_of (fields_of (drop (at + 1) lines))))
 
 -- an RRef was found
@@ -97,7 +97,7 @@ passed_more lines old new passed ty stays are none held k x e = elim (get_last p
   | inr a ↦ (subst (λ (y : TypeText). holds_rref y ≡ false) (sym a.1) none, λ t h. held t (subst (λ (y : TypeText). struct_held lines y ≡ Some t) a.1 h))
 ]
 
-split_on : (lines : Lines) (number at : ℕ) (passed : List TypeText) (ty : TypeText) → types_at lines number ≡ passed ++ types_of (fields_of (drop at lines)) → field_type (slice_get lines at) ≡ Some ty → types_at lines number ≡ (passed ++ ty ∷ []) ++ types_of (fields_of (drop (at + 1) lines))
+pub split_on : (lines : Lines) (number at : ℕ) (passed : List TypeText) (ty : TypeText) → types_at lines number ≡ passed ++ types_of (fields_of (drop at lines)) → field_type (slice_get lines at) ≡ Some ty → types_at lines number ≡ (passed ++ ty ∷ []) ++ types_of (fields_of (drop (at + 1) lines))
 split_on lines number at passed ty split f = split_more lines number at passed ty split f ∙ sym (append_assoc passed (ty ∷ []) (types_of (fields_of (drop (at + 1) lines))))
 
 -- a field that holds no struct

@@ -4,5 +4,6 @@ pub mod Walk
 pub mod Steps
 pub mod Search
 pub mod Rows
+pub mod Nesting
 pub mod BadLines
 pub mod Laws

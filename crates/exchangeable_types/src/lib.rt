@@ -4,6 +4,7 @@
 pub mod cells;
 pub mod check;
 pub mod laws;
+mod nesting;
 pub mod part;
 pub mod rows;
 pub mod search;

@@ -1,12 +1,15 @@
 //! The rows of structs, in the order of the text.
 ghost use Rattle.std.specs.Prelude.{◌≡◌, ℕ, ◌+◌, ◌++◌, ◌∷◌, [], ◌<◌, ◌≤◌, Some, length, slice_get, slice_set, IfOk, IfErr, OnOk, Err};
-ghost use Rattle.rl_defs.specs.Interfaces.{Rises, struct_names};
+ghost use Rattle.rl_defs.specs.Flattening.{Flattens};
+ghost use Rattle.rl_defs.specs.Interfaces.{Rises, struct_names, types_at};
+ghost use Rattle.exchangeable_types.specs.Nesting.{Passing, IsNestAnswer};
 ghost use Rattle.rl_defs.specs.Refusals.{Answers};
 ghost use Rattle.exchangeable_types.specs.Search.{Searching};
 ghost use Rattle.exchangeable_types.specs.Walk.{Walked};
 ghost use Rattle.exchangeable_types.specs.Rows.{StateAt, IsHead, IsNested, IsRowAnswer, AllRows, FailsStructs, Rowing};
 
 use crate::cells::Cells;
+use crate::nesting::may_nest;
 use crate::part::{Part, struct_name};
 use crate::search::search;
 use crate::walk::{State, count, start_of, walk};
@@ -56,8 +59,8 @@ fn is_nested(
     Ok(false)
 }
 
-// The same of one kind. A struct that isn't there has no fields.
-fn is_nested_kind(
+/// The same of one kind. A struct that isn't there has no fields.
+pub(crate) fn is_nested_kind(
     alloc: Global,
     part: &Part,
     seen: &mut Vec<bool>,
@@ -68,14 +71,41 @@ fn is_nested_kind(
 {
     match kind {
         Kind::Own(held) => {
-            if held < count(part) {
-                search(alloc, part, seen, held)
-            } else {
-                Ok(false)
+            if held >= count(part) {
+                return Ok(false);
             }
+            // What was seen holds none.
+            if seen.as_slice()[held as usize] {
+                return Ok(false);
+            }
+            search(alloc, part, seen, held)
         }
         _ => Ok(false),
     }
+}
+
+// Whether one of the cells of a struct is an `RRef` of a struct that holds an `RRef`. Mostly the fields tell that none is; where they don't,
+// each cell is looked at, with nothing seen before.
+fn nests(
+    alloc: Global,
+    part: &Part,
+    seen: &mut Vec<bool>,
+    passed: &mut Vec<bool>,
+    number: u32,
+    kinds: &[Kind],
+) -> Result<bool, Memory>
+    requires below { number < length (struct_names part.now.lines.now) }
+    requires flat { Flattens part.now.lines.now (types_at part.now.lines.now number) kinds.now }
+    requires searching { Searching part.now.lines.now seen.old.items [] }
+    requires passing { Passing part.now.lines.now passed.old.items [] }
+    ensures { IfOk result (IsNestAnswer part.now.lines.now kinds.now seen.new.items passed.new.items) }
+{
+    if !may_nest(alloc, part, seen, passed, number)? {
+        return Ok(false);
+    }
+    *seen = none_seen(alloc, part)?;
+    *passed = none_seen(alloc, part)?;
+    is_nested(alloc, part, seen, kinds)
 }
 
 /// A refusal of a line by a rule.
@@ -90,27 +120,32 @@ fn row_of(
     alloc: Global,
     part: &Part,
     seen: &mut Vec<bool>,
+    passed: &mut Vec<bool>,
     number: u32,
     state: State,
 ) -> Result<StructRow, LoadFault>
     requires below { number < length (struct_names part.now.lines.now) }
     requires known { StateAt part.now.lines.now number state }
     requires searching { Searching part.now.lines.now seen.old.items [] }
+    requires passing { Passing part.now.lines.now passed.old.items [] }
     ensures answer { IsRowAnswer part.now.lines.now number result }
     ensures searching { OnOk result (Searching part.now.lines.now seen.new.items []) }
+    ensures passing { OnOk result (Passing part.now.lines.now passed.new.items []) }
 {
     let head = head_of(part, number);
     match state {
         State::Endless => Err(refused(head.line, 11)),
         State::Ended(Cells::TooMany) => Err(refused(head.line, 12)),
-        State::Ended(Cells::Few(flat)) => match is_nested(alloc, part, seen, flat.as_slice()) {
-            Ok(true) => Err(refused(head.line, 13)),
-            Ok(false) => Ok(StructRow {
-                name: head.name,
-                flat,
-            }),
-            Err(_) => Err(LoadFault::Memory),
-        },
+        State::Ended(Cells::Few(flat)) => {
+            match nests(alloc, part, seen, passed, number, flat.as_slice()) {
+                Ok(true) => Err(refused(head.line, 13)),
+                Ok(false) => Ok(StructRow {
+                    name: head.name,
+                    flat,
+                }),
+                Err(_) => Err(LoadFault::Memory),
+            }
+        }
         State::New | State::Open(_) => unreachable!(),
     }
 }
@@ -130,16 +165,19 @@ fn next_row(
     part: &Part,
     states: &mut Vec<State>,
     seen: &mut Vec<bool>,
+    passed: &mut Vec<bool>,
     rows: &mut List<StructRow>,
     number: u32,
 ) -> Result<(), LoadFault>
     requires below { number < length (struct_names part.now.lines.now) }
     requires rowing { Rowing part.now.lines.now states.old.items seen.old.items rows.old number }
+    requires passing { Passing part.now.lines.now passed.old.items [] }
     ensures ok { OnOk result (Rowing part.now.lines.now states.new.items seen.new.items rows.new (number + 1)) }
+    ensures passing { OnOk result (Passing part.now.lines.now passed.new.items []) }
     ensures err { IfErr result (λ e. IsRowAnswer part.now.lines.now number (Err e)) }
 {
     let state = take(states, number);
-    let row = row_of(alloc, part, seen, number, state);
+    let row = row_of(alloc, part, seen, passed, number, state);
     match row {
         Ok(row) => match rows.push(row) {
             Ok(()) => Ok(()),
@@ -150,7 +188,8 @@ fn next_row(
 }
 
 fn none_seen(alloc: Global, part: &Part) -> Result<Vec<bool>, Memory>
-    ensures { IfOk result (λ seen. Searching part.now.lines.now seen.items []) }
+    ensures searching { IfOk result (λ seen. Searching part.now.lines.now seen.items []) }
+    ensures passing { IfOk result (λ seen. Passing part.now.lines.now seen.items []) }
 {
     let mut seen = Vec::new(alloc);
     'structs: for _ in 0..part.starts.len() {
@@ -173,9 +212,20 @@ pub fn struct_rows(alloc: Global, part: &Part) -> Result<List<StructRow>, LoadFa
     let Ok(mut seen) = none_seen(alloc, part) else {
         return Err(LoadFault::Memory);
     };
+    let Ok(mut passed) = none_seen(alloc, part) else {
+        return Err(LoadFault::Memory);
+    };
     let mut rows = List::new(alloc);
     'structs: for number in 0..count(part) {
-        if let Err(fault) = next_row(alloc, part, &mut states, &mut seen, &mut rows, number) {
+        if let Err(fault) = next_row(
+            alloc,
+            part,
+            &mut states,
+            &mut seen,
+            &mut passed,
+            &mut rows,
+            number,
+        ) {
             return Err(fault);
         }
     }

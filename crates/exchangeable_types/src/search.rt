@@ -9,8 +9,8 @@ use crate::walk::start_of;
 use rl_defs::Memory;
 use std::alloc::Global;
 
-// Marks a struct to be looked at, unless it was seen.
-fn mark(seen: &mut Vec<bool>, waiting: &mut Vec<u32>, held: u32) -> Result<(), Memory>
+/// Marks a struct to be looked at, unless it was seen.
+pub fn mark(seen: &mut Vec<bool>, waiting: &mut Vec<u32>, held: u32) -> Result<(), Memory>
     requires { held < length seen.old.items }
     ensures { OnOk result (Marks seen.old.items seen.new.items waiting.old.items waiting.new.items held) }
 {

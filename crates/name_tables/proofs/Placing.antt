@@ -50,11 +50,16 @@ same_place names name q e = ap (λ (x : List ℕ). place_of x names) (sym (same_
 few_more : (names : List (List ℕ)) (name : List ℕ) → length names < 2 ^ 32 - 1 → length (names ++ name ∷ []) < 2 ^ 32
 few_more names name room = omega (arith, length-append names (name ∷ []), room)
 
--- a name that is there comes again: the table stays
-pub placed_again : {S : Type 0} (names more : List (List ℕ)) (name : List ℕ) (places : IndexMap (List ℕ) ℕ S) → IsPlaced names places → length names < 2 ^ 32 - 1 → is_some (get (pointwise nat_eq) places name) ≡ true → more ≡ names ++ name ∷ [] → IsPlaced more places
-placed_again names more name places h room there is = rw is (record {
+-- what a look-up says, where a name got another place and its first one back
+restored : (b : Bool) (o : Option ℕ) (first place : ℕ) → (b ≡ true → o ≡ Some first) → cond b (Some first) (cond b (Some place) o) ≡ o
+restored true o first place h = sym (h refl)
+restored false o first place h = refl
+
+-- a name that is there comes again: it gets its first place back
+pub placed_again : {S : Type 0} (names more : List (List ℕ)) (name : List ℕ) (old mid new : IndexMap (List ℕ) ℕ S) (place first : ℕ) → IsPlaced names old → length names < 2 ^ 32 - 1 → get (pointwise nat_eq) old name ≡ Some first → more ≡ names ++ name ∷ [] → Updates (pointwise nat_eq) old mid name (Some place) → Updates (pointwise nat_eq) mid new name (Some first) → IsPlaced more new
+placed_again names more name old mid new place first h room there is puts back = rw is (record {
   few = few_more names name room;
-  place = λ q. h.place q ∙ again (pointwise nat_eq name q) (place_of q names) (place_of name names) (length names) (same_place names name q) (ap is_some (sym (h.place name)) ∙ there) ∙ sym (place_of_push names name q);
+  place = λ q. back.0 q ∙ ap (λ (o : Option ℕ). cond (pointwise nat_eq name q) (Some first) o) (puts.0 q) ∙ restored (pointwise nat_eq name q) (get (pointwise nat_eq) old q) first place (λ e. h.place q ∙ same_place names name q e ∙ sym (h.place name) ∙ there) ∙ h.place q ∙ again (pointwise nat_eq name q) (place_of q names) (place_of name names) (length names) (same_place names name q) (ap is_some (sym (h.place name) ∙ there)) ∙ sym (place_of_push names name q);
 })
 
 -- a new name is put into the table with its place

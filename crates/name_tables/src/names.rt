@@ -1,5 +1,7 @@
 //! Names in order, with the place where each stands first.
-ghost use Rattle.std.specs.Prelude.{◌≡◌, ℕ, ◌+◌, ◌-◌, ◌^◌, ◌<◌, List, [], ◌∷◌, ◌++◌, length, OnOk, OnErr, IfOk};
+ghost use Rattle.std.specs.Prelude.{◌≡◌, ◌≢◌, ℕ, ◌+◌, ◌-◌, ◌^◌, ◌<◌, List, [], ◌∷◌, ◌++◌, Some, None, length, nat_eq, OnOk, OnErr, IfOk};
+ghost use Rattle.std.specs.Cmp.Lexicographic.{pointwise};
+ghost use Rattle.indexmap.specs.IndexMap.{get, Updates};
 ghost use Rattle.rl_defs.specs.Interfaces.{place_of};
 
 use indexmap::IndexMap;
@@ -45,13 +47,13 @@ impl Names {
         ensures full { OnErr result (self.new ≡ self.old) }
     {
         let place = self.names.len() as u32;
-        let earlier = self.places.get(name).copied();
         push(&mut self.names, name)?;
-        if earlier.is_some() {
-            return Ok(earlier);
-        }
         match self.places.insert(*name, place) {
-            Ok(_) => Ok(None),
+            Ok(None) => Ok(None),
+            Ok(Some(earlier)) => {
+                put_back(&mut self.places, name, earlier);
+                Ok(Some(earlier))
+            }
             Err(_) => {
                 self.names.pop();
                 Err(Memory)
@@ -81,5 +83,16 @@ fn push(names: &mut Vec<Name>, name: &Name) -> Result<(), Memory>
     match names.push(*name) {
         Ok(()) => Ok(()),
         Err(_) => Err(Memory),
+    }
+}
+
+// Gives a name that is there its first place back. Most names are new, and are then looked up once.
+fn put_back(places: &mut IndexMap<Name, u32>, name: &Name, first: u32)
+    requires { get (pointwise nat_eq) places.old name.now ≢ None }
+    ensures { Updates (pointwise nat_eq) places.old places.new name.now (Some first) }
+{
+    match places.insert(*name, first) {
+        Ok(_) => {}
+        Err(_) => unreachable!(),
     }
 }

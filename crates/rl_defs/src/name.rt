@@ -75,14 +75,29 @@ impl Name {
         ensures exact { IsSome result ↔ IsTrue (is_name bytes.now) }
         ensures value { IfSome result (λ n. n ≡ bytes.now) }
     {
-        if !is_word(bytes) {
+        if !starts_word(bytes) || !are_word_bytes(bytes) {
+            return None;
+        }
+        Name::of_run(bytes)
+    }
+
+    /// The name that letters, digits and `_` are which begin with no digit and are no reserved word, where they are short enough. They
+    /// aren't gone over again.
+    pub fn of_run(run: &[u8]) -> Option<Name>
+        requires begins { IsTrue (starts_word run.now) }
+        requires inside { IsTrue (list_all is_word_byte run.now) }
+        requires free { IsTrue (not (is_reserved run.now)) }
+        ensures exact { IsSome result ↔ IsTrue (is_name run.now) }
+        ensures value { IfSome result (λ n. n ≡ run.now) }
+    {
+        if run.len() > LONGEST_WORD {
             return None;
         }
         let mut all = [0; 24];
-        all[..bytes.len()].copy_from_slice(bytes);
+        all[..run.len()].copy_from_slice(run);
         Some(Name {
             bytes: all,
-            len: bytes.len(),
+            len: run.len(),
         })
     }
 

@@ -4,6 +4,8 @@ use Rattle.std.specs.List.{list_all, prefix_len}
 use Rattle.std.proofs.lemmas.List.{take_more, take_all, drop_at, length-take, take-append-drop, take-append-le, drop_all, length-drop}
 use Rattle.std.proofs.lemmas.Bool.{cases_Bool, eqb-true}
 use Rattle.std.proofs.lemmas.Bool.Decides.{nat_tests}
+use Rattle.std.proofs.lemmas.List.Sums.{prefix_len_is}
+use Rattle.memchr.specs.Find.{Nowhere, NoneBefore, Passes, is_byte}
 use Rattle.rl_defs.specs.Lines.{lines_of, ends_line, put_first}
 use Rattle.rl_text.specs.Places.{Ends}
 use Rattle.rl_text.specs.Cuts.{IsCut, kept}
@@ -149,3 +151,14 @@ cut_fed rest line n text is lt line-is text-is =
     let p = fed_parts rest n is lt in
     let count : length line ≡ n = omega (arith, length-take n rest, ap length line-is) in
     cut_at rest line p.0 n text count all (p.1 ∙ ap (λ (t : List ℕ). t ++ 10 ∷ p.0) (sym line-is)) text-is
+
+-- where no line feed was found, or the first one was
+feed_passes : (b : Bool) → (b ≡ true → ⊥) → not b ≡ true
+feed_passes true never = absurd (never refl)
+feed_passes false never = refl
+
+pub feed_none : (xs : List ℕ) → Nowhere (Passes (is_byte 10) xs) 0 (length xs) → prefix_len not_feed xs ≡ length xs
+feed_none xs h = prefix_len_is not_feed xs (length xs) 0 (omega arith) (λ k l. feed_passes (eqb (get_or xs k 0) 10) (h k (omega arith) l)) (λ l. absurd (omega (arith, l)))
+
+pub feed_some : (xs : List ℕ) (k : ℕ) → NoneBefore (Passes (is_byte 10) xs) 0 (length xs) k → Passes (is_byte 10) xs k → prefix_len not_feed xs ≡ k
+feed_some xs k none here = prefix_len_is not_feed xs k 0 (omega (arith, none.high)) (λ j l. feed_passes (eqb (get_or xs j 0) 10) (none.before j (omega arith) l)) (λ l. ap not here)

@@ -5,6 +5,7 @@ ghost use Rattle.rl_defs.specs.Lines.{lines_of};
 ghost use Rattle.rl_text.specs.Places.{text_of, IsWithin, AreLines, AreNumbered, first_number};
 ghost use Rattle.rl_text.specs.Cuts.{IsCut, kept};
 
+use memchr::memchr;
 use rl_defs::Memory;
 use std::alloc::Global;
 
@@ -111,5 +112,8 @@ fn content(rest: &[u8]) -> usize
     ensures count { result ≡ prefix_len (λ c. not (c == 10)) rest.now }
     ensures within { result ≤ length rest.now }
 {
-    rest.iter().take_while(|byte| **byte != b'\n').count()
+    match memchr(b'\n', rest) {
+        Some(feed) => feed,
+        None => rest.len(),
+    }
 }

@@ -1,5 +1,5 @@
 //! The token at the front of bytes.
-ghost use Rattle.std.specs.Prelude.{◌≡◌, ℕ, ◌+◌, ◌-◌, ◌<◌, ◌≤◌, ◌∷◌, List, length, take, drop, Option, None, Some, IfSome, option_map};
+ghost use Rattle.std.specs.Prelude.{◌≡◌, ℕ, ◌+◌, ◌-◌, ◌<◌, ◌≤◌, ◌∷◌, List, length, take, drop, Option, None, Some, IfSome, IsTrue, option_map};
 ghost use Rattle.std.specs.List.{prefix_len, list_all};
 ghost use Rattle.rl_defs.specs.Tokens as bytes;
 ghost use Rattle.rl_defs.specs.Words as words;
@@ -198,20 +198,23 @@ fn number_at(run: &[u8]) -> Option<u64>
     number_of(run, 10)
 }
 
-// The word of a run.
+// The word of a run that begins with no digit.
 #[tactic(auto, unfolding(crate::specs::Scan::word_of))]
 fn word_of(run: &[u8]) -> Option<Lexeme>
+    requires begins { IsTrue (words.starts_word run.now) }
+    requires inside { IsTrue (list_all words.is_word_byte run.now) }
     ensures { GivesToken result (word_of run.now) }
 {
     if let Some(key) = key_of(run) {
         return Some(Lexeme::Key(key));
     }
-    let name = Name::unreserved(run)?;
+    let name = Name::of_run(run)?;
     Some(Lexeme::Word(name))
 }
 
 // What a run of letters, digits and `_` is.
 fn run_of(run: &[u8]) -> Option<Lexeme>
+    requires inside { IsTrue (list_all words.is_word_byte run.now) }
     ensures { GivesToken result (run_of run.now) }
 {
     let [first, ..] = run else {

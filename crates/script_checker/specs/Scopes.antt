@@ -1,9 +1,8 @@
 -- A bundle with its tables, and the look-ups that are kept beside them.
-use Rattle.std.specs.Prelude.{◌≡◌, ℕ, ◌+◌, ◌<◌, ◌^◌, Bool, List, [], ◌∷◌, map, length, Option, Some, None, slice_get, unwrap_or}
-use Rattle.std.specs.List.{list_all, flat_map}
+use Rattle.std.specs.Prelude.{◌≡◌, ℕ, ◌+◌, ◌<◌, ◌^◌, List, [], ◌∷◌, map, length, Option, Some, None, slice_get, unwrap_or}
+use Rattle.std.specs.List.{flat_map}
 use Rattle.rl_defs.specs.declared.bundle.PlanLine.{PlanLine}
 use Rattle.rl_defs.specs.declared.bundle.PlanLine.TheVariants as plan
-use Rattle.rl_defs.specs.declared.tables.Width.TheVariants as width
 use Rattle.rl_defs.specs.declared.tables.Tables.{Tables}
 use Rattle.rl_defs.specs.declared.bundle.Bundle.{Bundle}
 use Rattle.rl_defs.specs.declared.bundle.Plan.{Plan}
@@ -12,7 +11,6 @@ use Rattle.rl_defs.specs.declared.code.DomainText.{DomainText}
 use Rattle.rl_defs.specs.Interfaces.{place_of}
 use Rattle.rl_defs.specs.DomainValue.{Domain}
 use Rattle.rl_defs.specs.Domains.{Lines, trait_name}
-use Rattle.rl_defs.specs.NativeShapes.{is_number}
 use Rattle.rl_defs.specs.BundleNames.{given_by, names_of, domain_given, load_names, domains_loaded, lines_of_domain, domain_of_load}
 use Rattle.rl_defs.specs.ScriptRules.{trait_of_lines, lines_of_load}
 use Rattle.rl_defs.specs.BundleOrder.{bundle_of}
@@ -60,11 +58,10 @@ all_lines domains = flat_map (λ d. d.lines) domains
 abbrev pub trait_in : List (List ℕ) → List DomainText → List ℕ → ℕ
 trait_in traits domains name = number_at (map (λ d. number_of (trait_name d.lines) traits) domains) (place_of name (names_of (given_by domain_given (all_lines domains))))
 
--- The look-ups give the structs, whether all cells of each are bytes, the methods of each trait, and the loads and the shadows with their
+-- The look-ups give the structs, the methods of each trait, and the loads and the shadows with their
 -- traits.
-pub record IsScope (S : Scoped) (structs : List (List ℕ)) (bytes : List Bool) (methods : List (List (List ℕ))) (loads : List (List ℕ)) (loaded : List ℕ) (shadows : List (List ℕ)) (shadowed : List ℕ) : Type 0 where
+pub record IsScope (S : Scoped) (structs : List (List ℕ)) (methods : List (List (List ℕ))) (loads : List (List ℕ)) (loaded : List ℕ) (shadows : List (List ℕ)) (shadowed : List ℕ) : Type 0 where
   pub structs_are : structs ≡ map (λ s. s.name) S.tables.structs
-  pub bytes_are : bytes ≡ map (λ s. list_all (is_number width.W8) s.flat) S.tables.structs
   pub methods_are : methods ≡ map (λ t. map (λ m. m.name) t.methods) S.tables.traits
   pub loads_are : loads ≡ load_names S.bundle
   pub loaded_are : loaded ≡ load_traits S.tables S.bundle

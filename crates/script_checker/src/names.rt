@@ -67,14 +67,15 @@ pub fn method_names(alloc: Global, traits: &[TraitRow]) -> Result<List<Names>, M
     Ok(all)
 }
 
-/// Whether the cell is a `u8`.
+// Whether the cell is a `u8`.
 fn is_byte(cell: Kind) -> bool
     ensures { result ≡ is_number width.W8 cell }
 {
     matches!(cell, Kind::Num(Width::W8))
 }
 
-fn are_bytes(cells: &[Kind]) -> bool
+/// Whether all cells are `u8`.
+pub fn are_bytes(cells: &[Kind]) -> bool
     ensures { result ≡ list_all (is_number width.W8) cells.now }
 {
     'each: for cell in cells {
@@ -83,15 +84,4 @@ fn are_bytes(cells: &[Kind]) -> bool
         }
     }
     true
-}
-
-/// Of each struct, whether all its cells are `u8`.
-pub fn structs_of_bytes(alloc: Global, structs: &[StructRow]) -> Result<List<bool>, Memory>
-    ensures { IfOk result (λ all. all ≡ map (λ s. list_all (is_number width.W8) s.flat) structs.now) }
-{
-    let mut all = List::new(alloc);
-    'each: for row in structs {
-        all.push(are_bytes(row.flat.as_slice()))?;
-    }
-    Ok(all)
 }

@@ -9,7 +9,7 @@ ghost use Rattle.rl_defs.specs.ScriptRules.{target_trait};
 ghost use Rattle.rl_defs.specs.Standing.{target_number};
 ghost use Rattle.script_checker.specs.Scopes.{without_interfaces};
 
-use crate::names::{method_names, struct_names, structs_of_bytes, trait_names};
+use crate::names::{are_bytes, method_names, struct_names, trait_names};
 use crate::targets::{Targets, loads_of, shadows_of};
 use name_tables::names::Names;
 use rl_defs::Memory;
@@ -29,7 +29,6 @@ pub struct Scope<'a> {
     plan: &'a Plan,
     clients: &'a Clients,
     structs: Names,
-    bytes: List<bool>,
     methods: List<Names>,
     loads: Targets,
     shadows: Targets,
@@ -42,7 +41,7 @@ impl<'a> Model for Scope<'a> {
 
     ghost view = { λ s. record { tables = s.tables.now; bundle = without_interfaces s.domains.now s.plan.now s.clients.now } };
 
-    ghost invariant = { λ s. IsScope (record { tables = s.tables.now; bundle = without_interfaces s.domains.now s.plan.now s.clients.now }) s.structs s.bytes s.methods s.loads.names s.loads.traits s.shadows.names s.shadows.traits };
+    ghost invariant = { λ s. IsScope (record { tables = s.tables.now; bundle = without_interfaces s.domains.now s.plan.now s.clients.now }) s.structs s.methods s.loads.names s.loads.traits s.shadows.names s.shadows.traits };
 }
 
 fn method_at(tables: &Tables, of: u32, number: u32) -> Option<&MethodRow>
@@ -67,7 +66,6 @@ impl<'a> Scope<'a> {
     {
         let traits = trait_names(alloc, tables.traits.as_slice())?;
         let structs = struct_names(alloc, tables.structs.as_slice())?;
-        let bytes = structs_of_bytes(alloc, tables.structs.as_slice())?;
         let methods = method_names(alloc, tables.traits.as_slice())?;
         let loads = loads_of(alloc, &traits, domains, plan)?;
         let shadows = shadows_of(alloc, &loads, plan)?;
@@ -80,7 +78,6 @@ impl<'a> Scope<'a> {
             plan,
             clients,
             structs,
-            bytes,
             methods,
             loads,
             shadows,
@@ -117,7 +114,7 @@ impl<'a> Scope<'a> {
     pub fn is_of_bytes(&self, s: u32) -> bool
         ensures { result ≡ list_all (is_number width.W8) (cells_of self.now.tables s) }
     {
-        self.bytes.get(s as usize).copied().unwrap_or(true)
+        are_bytes(self.cells(s))
     }
 
     /// The number of the trait of a target. It is 0 where there is no such target.

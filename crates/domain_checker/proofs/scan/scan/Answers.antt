@@ -15,7 +15,7 @@ lines-init c = record {
   at = c.first-here.ensures.place;
   of = c.first-here.ensures.scope;
   none = none_first c.args.scope.now;
-  rows = rows_first c.args.scope.now c.new-2.result.items c.new.result.items c.new.ensures.items;
+  rows = rows_first c.args.scope.now c.new.result.items c.in-Ok.rows.items c.in-Ok.ensures.items;
 }
 
 pub keep-requires-clause-lines : goal.keep-requires-clause-lines
@@ -43,8 +43,8 @@ lines-preserved c =
     record {
       at = c.in-Ok-next.ensures.place ∙ ap (λ (k : ℕ). k + 1) c.lines.invariant.at;
       of = c.in-Ok-next.ensures.scope ∙ c.lines.invariant.of;
-      none = none_more c.args.scope.now c.lines.place c.index-lines-place.result c.lines.invariant.none here (lowest_there c.args.scope.now c.lines.here.scope.now c.lines.here.place c.lines.place c.index-lines-place.result.form c.rule_of.result None c.lines.invariant.of c.lines.invariant.at c.in_default.is c.rule_of.ensures);
-      rows = rows_here c.args.scope.now c.lines.here.scope.now c.keep.new.kept.emptied.items c.keep.new.kept.rows.items c.lines.here.place c.lines.place c.lines.invariant.of c.lines.invariant.at c.in-Ok.ensures;
+      none = none_more c.args.scope.now c.lines.place c.index-lines-place.result c.lines.invariant.none here (lowest_there c.args.scope.now c.lines.here.scope.now c.lines.here.place c.lines.place c.index-lines-place.result.form c.rule_of.result None c.lines.invariant.of c.lines.invariant.at c.in_default-rule_of.is c.rule_of.ensures);
+      rows = rows_here c.args.scope.now c.lines.here.scope.now c.keep.new.kept.emptied.items c.keep.new.kept.rows.items c.lines.here.place c.lines.place c.lines.invariant.of c.lines.invariant.at c.in-Ok-keep.ensures;
     }
 
 pub returns : goal.returns
