@@ -7,11 +7,9 @@ use Rattle.rl_defs.specs.declared.bundle.Numbered.{Numbered}
 use Rattle.rl_defs.specs.declared.code.DomainLine.{DomainLine}
 use Rattle.rl_defs.specs.declared.code.DomainText.{DomainText}
 use Rattle.rl_defs.specs.declared.code.DomainLine.TheVariants as line
-use Rattle.rl_defs.specs.Interfaces.{struct_names, Lines as IdlLines}
 use Rattle.rl_defs.specs.Domains.{Lines}
 use Rattle.rl_defs.specs.CodeNames.{imports, import_of_form}
 use Rattle.rl_defs.specs.BundleNames.{Given, given, given_by, names_of, domain_given, import_given}
-use Rattle.bundle_names.specs.Tests.{struct_given}
 use Rattle.bundle_names.specs.PlanNames.{declared_names}
 use Rattle.rl_defs.proofs.Places.{drop_at}
 
@@ -74,10 +72,6 @@ imports_given (x ∷ xs) = names_of_append x.line (import_given x.form) (given_b
   by (line.Head name items) = refl
   by (line.Code i) = refl
   by line.Close = refl
-
-pub structs_given : (lines : IdlLines) → names_of (given_by struct_given lines) ≡ struct_names lines
-structs_given [] = refl
-structs_given (x ∷ xs) = names_of_append x.line (struct_given x.form) (given_by struct_given xs) ∙ ap (λ (ns : List (List ℕ)). struct_given x.form ++ ns) (structs_given xs)
 
 -- what is made of each item, one after the other
 pub mapped_more : {A B : Type 0} (f : A → B) (xs : List A) (k : ℕ) (x : A) (all old new : List B) (y : B) → slice_get xs k ≡ Some x → old ++ map f (drop k xs) ≡ all → new ≡ old ++ y ∷ [] → y ≡ f x → new ++ map f (drop (k + 1) xs) ≡ all

@@ -1,9 +1,7 @@
 -- Tests of names: given before, or given by nothing.
 use Rattle.std.specs.Prelude.{◌≡◌, ℕ, ◌||◌, Bool, true, false, List, [], ◌∷◌, ◌++◌, Option, Some, None, is_some, is_none, slice_get}
 use Rattle.std.specs.List.{list_any}
-use Rattle.std.specs.Option.{option_to_list}
-use Rattle.rl_defs.specs.declared.idl.IdlLine.{IdlLine}
-use Rattle.rl_defs.specs.Interfaces.{place_of, struct_name}
+use Rattle.rl_defs.specs.Interfaces.{place_of}
 
 abbrev pub is_given : List (List ℕ) → List ℕ → Bool
 is_given names name = is_some (place_of name names)
@@ -35,7 +33,3 @@ abbrev pub rule_of : Bool → Bool → Option ℕ
 rule_of true nothing = Some 3
 rule_of false true = Some 4
 rule_of false false = None
-
--- the name that a line of the interface part gives to a struct
-abbrev pub struct_given : IdlLine → List (List ℕ)
-struct_given form = option_to_list (struct_name form)

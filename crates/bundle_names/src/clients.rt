@@ -7,8 +7,9 @@ ghost use Rattle.rl_defs.specs.BundleNames.{target_passed, name_passed};
 ghost use Rattle.bundle_names.specs.Tests.{repeats, has_unknown};
 ghost use Rattle.bundle_names.specs.ClientNames.{FailsClientNames, no_scripts, usable_names, script_after, names_again, uses_nothing};
 
-use crate::known::{add, is_unknown, struct_names, target_names};
+use crate::known::{add, is_unknown, target_names};
 use crate::plan::{refused, rule_of};
+use declared_names::interfaces::struct_names;
 use name_tables::names::Names;
 use rl_defs::bundle::{Bundle, ClientLine, ScriptArgText};
 use rl_defs::name::Name;

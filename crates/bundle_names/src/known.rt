@@ -2,17 +2,15 @@
 ghost use Rattle.std.specs.Prelude.{◌≡◌, ◌∷◌, [], ◌++◌, map, OnOk, IfOk};
 ghost use Rattle.std.specs.List.{flat_map};
 ghost use Rattle.std.specs.Option.{option_copied};
-ghost use Rattle.rl_defs.specs.Interfaces.{struct_names};
 ghost use Rattle.rl_defs.specs.CodeNames.{imports};
 ghost use Rattle.rl_defs.specs.BundleNames.{names_of, given_by, domain_given, import_given, domains_loaded, target_given, load_given, client_given};
-ghost use Rattle.bundle_names.specs.Tests.{is_given, is_unknown, lacks, has_unknown, struct_given};
+ghost use Rattle.bundle_names.specs.Tests.{is_given, is_unknown, lacks, has_unknown};
 ghost use Rattle.bundle_names.specs.PlanNames.{declared_names, known_names, imports_of_load};
 
 use name_tables::names::Names;
 use rl_defs::Memory;
 use rl_defs::bundle::{Bundle, ClientLine, Numbered, PlanLine};
 use rl_defs::code::{DomainLine, DomainText};
-use rl_defs::idl::IdlLine;
 use rl_defs::list::List;
 use rl_defs::name::Name;
 use std::alloc::Global;
@@ -96,15 +94,6 @@ fn put_client(names: &mut Names, form: &ClientLine) -> Result<(), Memory>
     Ok(())
 }
 
-fn put_struct(names: &mut Names, form: &IdlLine) -> Result<(), Memory>
-    ensures { OnOk result (names.new ≡ names.old ++ struct_given form.now) }
-{
-    if let IdlLine::Struct(name) = form {
-        add(names, name)?;
-    }
-    Ok(())
-}
-
 // Adds the names of the domains that begin at these lines.
 fn add_domains(names: &mut Names, lines: &[Numbered<DomainLine>]) -> Result<(), Memory>
     ensures { OnOk result (names.new ≡ names.old ++ names_of (given_by domain_given lines.now)) }
@@ -183,17 +172,6 @@ fn client_names(alloc: Global, lines: &[Numbered<ClientLine>]) -> Result<Names, 
     let mut names = Names::new(alloc);
     'lines: for line in lines {
         put_client(&mut names, &line.form)?;
-    }
-    Ok(names)
-}
-
-/// The names of the structs of an interface part.
-pub fn struct_names(alloc: Global, lines: &[Numbered<IdlLine>]) -> Result<Names, Memory>
-    ensures { IfOk result (λ names. names ≡ struct_names lines.now) }
-{
-    let mut names = Names::new(alloc);
-    'lines: for line in lines {
-        put_struct(&mut names, &line.form)?;
     }
     Ok(names)
 }

@@ -1,5 +1,5 @@
 //! The names of an interface part.
-ghost use Rattle.std.specs.Prelude.{◌≡◌, ◌-◌, ◌^◌, ◌<◌, ◌++◌, length, IfOk, OnOk};
+ghost use Rattle.std.specs.Prelude.{◌≡◌, ◌^◌, ◌<◌, ◌++◌, length, IfOk, OnOk};
 ghost use Rattle.std.specs.Option.{option_to_list};
 ghost use Rattle.rl_defs.specs.Refusals.{Answers};
 ghost use Rattle.rl_defs.specs.Interfaces.{Rises, struct_name, trait_name, struct_names, trait_names};
@@ -14,18 +14,18 @@ use rl_defs::name::Name;
 use rl_defs::{LoadFault, Memory};
 use std::alloc::Global;
 
-// Adds a name, where there is one.
+// Adds a name, where there is one. A table counts its names in 32 bits; more are more than memory has room for.
 fn add(names: &mut Names, name: Option<Name>) -> Result<(), Memory>
-    requires { length names.old < 2 ^ 32 - 1 }
     ensures { OnOk result (names.new ≡ names.old ++ option_to_list name) }
 {
-    match name {
-        Some(name) => {
-            names.add(&name)?;
-            Ok(())
-        }
-        None => Ok(()),
+    let Some(name) = name else {
+        return Ok(());
+    };
+    if names.len() == u32::MAX {
+        return Err(Memory);
     }
+    names.add(&name)?;
+    Ok(())
 }
 
 fn struct_name(line: &IdlLine) -> Option<Name>
@@ -48,7 +48,6 @@ fn trait_name(line: &IdlLine) -> Option<Name>
 
 /// The names of the structs, in the order of the text.
 pub fn struct_names(alloc: Global, lines: &[Numbered<IdlLine>]) -> Result<Names, Memory>
-    requires { length lines.now < 2 ^ 32 }
     ensures { IfOk result (λ names. names ≡ struct_names lines.now) }
 {
     let mut names = Names::new(alloc);
@@ -60,7 +59,6 @@ pub fn struct_names(alloc: Global, lines: &[Numbered<IdlLine>]) -> Result<Names,
 
 /// The names of the traits, in the order of the text.
 pub fn trait_names(alloc: Global, lines: &[Numbered<IdlLine>]) -> Result<Names, Memory>
-    requires { length lines.now < 2 ^ 32 }
     ensures { IfOk result (λ names. names ≡ trait_names lines.now) }
 {
     let mut names = Names::new(alloc);

@@ -2,10 +2,12 @@
 #![tactic(auto)]
 
 pub mod check;
-pub mod facts;
-pub mod limits;
-pub mod pairs;
-pub mod rows;
-pub mod rules;
-pub mod scan;
-pub mod tables;
+mod facts;
+mod limits;
+mod pairs;
+mod rows;
+mod rules;
+mod scan;
+mod tables;
+
+pub use rows::PlanRows;

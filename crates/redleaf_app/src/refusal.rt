@@ -2,8 +2,8 @@
 ghost use Rattle.std.specs.Prelude.{◌≡◌, ◌≢◌, ℕ, ◌<◌, ◌^◌, IfOk, IfSome, IfNone};
 ghost use Rattle.redleaf_app.specs.Outcomes.{refusal_text};
 
+use crate::front::{after, number_at};
 use crate::put::{put, put_number};
-use crate::small::{after, number_at};
 use rl_defs::{Memory, Refusal};
 use std::alloc::Global;
 

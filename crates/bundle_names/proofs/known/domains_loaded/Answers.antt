@@ -3,7 +3,7 @@ use Rattle.std.specs.Prelude.{slice_get}
 use Rattle.std.proofs.lemmas.Option.{slice_get_read}
 use Rattle.rl_defs.specs.BundleNames.{given_by, names_of}
 use Rattle.rl_defs.specs.BundleNames.{domains_loaded}
-use Rattle.bundle_names.proofs.Listing.{listed_more, listed_all, imports_given, structs_given}
+use Rattle.bundle_names.proofs.Listing.{listed_more, listed_all}
 use Rattle.bundle_names.proofs.known.domains_loaded.Goals as goal
 
 pub lines-preserved : goal.lines-preserved

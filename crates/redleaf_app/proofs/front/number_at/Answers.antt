@@ -1,7 +1,7 @@
 use Rattle.std.proofs.Common.{◌++◌, sym, ap, ◌∙◌}
 use Rattle.std.proofs.lemmas.List.{take-append-drop}
 use Rattle.redleaf_app.proofs.Numbers.{digits_len_le, all_digits_len, drop-digits_len, number_is}
-use Rattle.redleaf_app.proofs.small.number_at.Goals as goal
+use Rattle.redleaf_app.proofs.front.number_at.Goals as goal
 
 pub split_at-requires : goal.split_at-requires
 split_at-requires c = rw c.digits_len.ensures (digits_len_le c.args.bytes.now)

@@ -2,7 +2,7 @@ use Rattle.std.proofs.Common.{◌<◌, length, arith, ap}
 use Rattle.std.proofs.lemmas.Bool.Decides.{nat_tests}
 use Rattle.std.proofs.lemmas.Fmt.{decimal_nonempty}
 use Rattle.redleaf_app.proofs.Numbers.{not_canonical, number_cases}
-use Rattle.redleaf_app.proofs.small.number_of.Goals as goal
+use Rattle.redleaf_app.proofs.front.number_of.Goals as goal
 
 pub returns-then-is_empty : goal.returns-then-is_empty
 returns-then-is_empty c = λ n lt e. grind (arith, nat_tests, decimal_nonempty n lt, ap length e, c.is_empty.ensures, c.if-is_empty.true)

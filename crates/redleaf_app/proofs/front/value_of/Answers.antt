@@ -2,7 +2,7 @@ use Rattle.std.proofs.Common.{◌+◌, ◌<◌, length, arith}
 use Rattle.std.proofs.lemmas.Str.{digit_value_digit}
 use Rattle.std.proofs.lemmas.Str.Parse.{digit_at, digits_value-take-le}
 use Rattle.std.proofs.lemmas.Int.Digits.{digits_value_more}
-use Rattle.redleaf_app.proofs.small.value_of.Goals as goal
+use Rattle.redleaf_app.proofs.front.value_of.Goals as goal
 
 pub append_digit-requires : goal.append_digit-requires
 append_digit-requires c = digit_at c.args.digits.now c.loop-digit.digit-index c.requires (omega arith)

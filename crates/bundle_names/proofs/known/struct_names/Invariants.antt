@@ -1,8 +1,0 @@
-use Rattle.std.proofs.Common.{◌≡◌, ◌++◌}
-use Rattle.rl_defs.specs.BundleNames.{given_by, names_of}
-use Rattle.bundle_names.specs.Tests.{struct_given}
-use Rattle.bundle_names.proofs.Listing.{names_from}
-use Rattle.bundle_names.proofs.known.struct_names.Given as goal
-
-abbrev pub invariant-lines : goal.invariant-lines
-invariant-lines l = l.names ++ names_from struct_given l.lines l.line-index ≡ names_of (given_by struct_given l.lines)
