@@ -49,3 +49,4 @@ pub mod BundleOrder
 pub mod Standing
 pub mod Acceptance
 pub mod CodeLaws
+pub mod Machine
