@@ -1,0 +1,181 @@
+-- The run of the caller that ends while its callee runs, step by step.
+use Rattle.std.proofs.Common.{ℕ, zero, suc, arith, List, [], ◌∷◌, Option, Some, refl, true, inr}
+use Rattle.std.specs.Fmt.{digits}
+use Rattle.rl_defs.specs.declared.values.Value.{Value}
+use Rattle.rl_defs.specs.declared.values.Value.TheVariants as value
+use Rattle.rl_defs.specs.declared.values.Owner.TheVariants as owner
+use Rattle.rl_defs.specs.declared.entry.Entry.TheVariants as entry
+use Rattle.rl_defs.specs.State.{State, StackFrame, start, with_thread}
+use Rattle.rl_defs.specs.Loans.{sweep}
+use Rattle.rl_defs.specs.Run.{AllDone}
+use Rattle.rl_defs.specs.Machine.Objects.{with_new}
+use Rattle.rl_defs.specs.Machine.Seen.{ended}
+use Rattle.rl_defs.specs.Machine.Frames.{popped, with_top}
+use Rattle.rl_defs.specs.Machine.CallRows.{entered, after_return}
+use Rattle.rl_defs.specs.Machine.Steps.{Step}
+use Rattle.worked_runs.specs.Parts.{thread, frame_at, quiet, freeing}
+use Rattle.worked_runs.specs.EndedCaller.{ended_caller, ended_caller_end, IsEndedCaller}
+use Rattle.worked_runs.proofs.Turns.{none_yet, goes_on, worked}
+
+-- the outer and the inner frame
+abbrev pub outer : ℕ → List (Option Value) → StackFrame
+outer at values = frame_at 1 2 2 0 [] at values
+
+abbrev pub inner : ℕ → List (Option Value) → StackFrame
+inner at values = frame_at 2 1 1 0 [] at values
+
+abbrev pub first : State
+first = start ended_caller
+
+abbrev pub called : State
+called = entered 1 1 2 [] (outer 3 []) (with_thread first 1 (thread 9999 0 []))
+
+pub call : Step ended_caller first (quiet (entry.Call 1 1 2 2 0 [])) called
+call = record {
+  made = called;
+  enabled = refl;
+  makes = record {
+    charged = with_thread first 1 (thread 9999 0 []);
+    frame = outer 3 [];
+    wants = refl;
+    unrefused = refl;
+    into = refl;
+    lives = refl;
+    number = refl;
+    begins = record { is = refl; body = (refl, refl, refl) };
+    becomes = refl;
+  };
+  frees = refl;
+  swept = refl;
+}
+
+-- while the inner call runs the outer frame stands at its call
+abbrev pub charged : State
+charged = with_top 1 (outer 4 (Some (value.Cap 1) ∷ [])) (with_thread called 1 (thread 9997 0 []))
+
+abbrev pub called_inner : State
+called_inner = entered 1 2 1 [] (inner 2 []) charged
+
+pub call_inner : Step ended_caller called (quiet (entry.Call 1 2 1 1 0 [])) called_inner
+call_inner = record {
+  made = called_inner;
+  enabled = refl;
+  makes = record {
+    charged = charged;
+    frame = inner 2 [];
+    wants = refl;
+    unrefused = refl;
+    into = refl;
+    lives = refl;
+    number = refl;
+    begins = record { is = refl; body = (refl, refl, refl) };
+    becomes = refl;
+  };
+  frees = refl;
+  swept = refl;
+}
+
+abbrev pub killed : State
+killed = ended 2 (with_thread called_inner 2 (thread 9999 1 []))
+
+pub kill : Step ended_caller called_inner (quiet (entry.Kill 2 2)) killed
+kill = record {
+  made = killed;
+  enabled = refl;
+  makes = record { thread = thread 0 0 []; target = 2; of = refl; wants = refl; inside = refl; becomes = refl };
+  frees = refl;
+  swept = refl;
+}
+
+abbrev pub made_object : State
+made_object = with_new ended_caller 0 (owner.Instance 1) [] (with_top 1 (inner 3 (Some (value.Obj 1) ∷ [])) (with_thread killed 1 (thread 9996 0 [])))
+
+new : Step ended_caller killed (quiet (entry.New 1 (owner.Instance 1) 1 0 [])) made_object
+new = record {
+  made = made_object;
+  enabled = refl;
+  makes = record {
+    number = refl;
+    makes = inr (record {
+      inside = 1;
+      mine = refl;
+      blank = refl;
+      does = record {
+        thread = thread 9997 0 [];
+        fuel = 9997;
+        frame = inner 2 [];
+        after = inner 3 (Some (value.Obj 1) ∷ []);
+        of = refl;
+        wants = refl;
+        inside = refl;
+        answers = refl;
+        becomes = refl;
+      };
+    });
+  };
+  frees = refl;
+  swept = refl;
+}
+
+abbrev pub returned : State
+returned = after_return 1 9996 (thread 9996 0 []) (value.Obj 1 ∷ []) made_object
+
+abbrev pub without_the_object : State
+without_the_object = sweep returned
+
+returns : Step ended_caller made_object (freeing (entry.Ret 1 2 (value.Obj 1 ∷ [])) (1 ∷ [])) without_the_object
+returns = record {
+  made = returned;
+  enabled = refl;
+  makes = record {
+    thread = thread 9996 0 [];
+    fuel = 9996;
+    frame = inner 3 (Some (value.Obj 1) ∷ []);
+    of = refl;
+    wants = refl;
+    call = refl;
+    replies = refl;
+  };
+  frees = refl;
+  swept = refl;
+}
+
+abbrev pub killer_done : State
+killer_done = with_thread without_the_object 2 (record (thread 9999 1 []) { done = true })
+
+ends_killer : Step ended_caller without_the_object (quiet (entry.Done 2)) killer_done
+ends_killer = record { made = killer_done; enabled = refl; makes = record { thread = thread 9999 1 []; of = refl; wants = refl; becomes = refl }; frees = refl; swept = refl }
+
+abbrev pub unwound : State
+unwound = with_thread (popped 1 killer_done) 1 (thread 9995 1 [])
+
+unwinds : Step ended_caller killer_done (quiet (entry.Unwound 1 1)) unwound
+unwinds = record {
+  made = unwound;
+  enabled = refl;
+  makes = record {
+    frame = outer 4 (Some (value.Cap 1) ∷ []);
+    of = record { on_top = refl; dead = refl; call = refl };
+    over = refl;
+    replies = record { thread = thread 9995 0 []; of = refl; becomes = refl };
+  };
+  frees = refl;
+  swept = refl;
+}
+
+ends_caller : Step ended_caller unwound (quiet (entry.Done 1)) ended_caller_end
+ends_caller = record { made = ended_caller_end; enabled = refl; makes = record { thread = thread 9995 1 []; of = refl; wants = refl; becomes = refl }; frees = refl; swept = refl }
+
+done : AllDone ended_caller_end
+done zero d lt = refl
+done (suc zero) d lt = refl
+done (suc (suc k)) d lt = absurd (omega arith)
+
+pub ended_caller_is_worked : IsEndedCaller
+unfolding digits
+ended_caller_is_worked = worked
+    (goes_on 2 (goes_on 1 (goes_on 0 (goes_on 2 (goes_on 1 (goes_on 0 (goes_on 2 (goes_on 1 none_yet call refl) call_inner refl) kill refl) new refl) returns refl)
+    ends_killer refl) unwinds refl) ends_caller refl)
+    done
+    refl
+    refl

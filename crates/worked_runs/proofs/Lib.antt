@@ -1,0 +1,12 @@
+pub mod ToldTurns
+pub mod Determined
+pub mod MovedTwice
+pub mod LentWhileKilled
+pub mod HungAndDropped
+pub mod TrapOverHung
+pub mod Turns
+pub mod KilledTwice
+pub mod KilledInARead
+pub mod EndedCaller
+pub mod OppositeOrders
+pub mod Wrong

@@ -1,0 +1,12 @@
+pub mod Parts
+pub mod MovedTwice
+pub mod LentWhileKilled
+pub mod HungAndDropped
+pub mod TrapOverHung
+pub mod WorkedRuns
+pub mod Driver
+pub mod KilledTwice
+pub mod KilledInARead
+pub mod EndedCaller
+pub mod OppositeOrders
+pub mod Wrong
