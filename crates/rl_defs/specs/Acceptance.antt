@@ -1,5 +1,5 @@
 -- Which bundles are accepted, and the first failing rule of the others.
-use Rattle.std.specs.Prelude.{◌≡◌, ℕ, ◌⊎◌, List, slice_get, Some}
+use Rattle.std.specs.Prelude.{◌≡◌, ℕ, ◌≤◌, ◌⊎◌, List, length, slice_get, Some}
 use Rattle.rl_defs.specs.declared.code.DomainText.{DomainText}
 use Rattle.rl_defs.specs.declared.tables.Tables.{Tables}
 use Rattle.rl_defs.specs.Refusals.{Failing, Nowhere, Then, IsFirst}
@@ -53,9 +53,10 @@ pub record Accepted (bytes : List ℕ) (L : Load) : Type 0 where
   pub rows : TableRows bundle.idl tables
   pub stands : L ≡ load_of tables bundle
 
--- A load is valid where it is what some accepted bundle stands for.
+-- A load is valid where it is what some accepted bundle stands for, of no more bytes than a bundle may have.
 pub record Valid (L : Load) : Type 0 where
   pub bytes : List ℕ
+  pub few : length bytes ≤ 1048576
   pub accepted : Accepted bytes L
 
 -- What is known of a bundle before the rules on its plan are looked at: its order, and that no name is given twice or unknown.
