@@ -1,0 +1,41 @@
+-- How often objects stand in lists.
+use Rattle.std.proofs.Common.{◌≡◌, ℕ, ◌<◌, ◌==◌, true, false, cond, List, [], ◌∷◌, refl, sym, arith, inl, inr}
+use Rattle.std.proofs.lemmas.Bool.{cases_Bool, eq-eqb, ne_eqb}
+use Rattle.rl_defs.specs.Loans.{count}
+use Rattle.rl_defs.specs.Crossing.{has}
+use Rattle.machine_laws.specs.LedgerRows.{Exchanged}
+
+pub one_here : (o : ℕ) → count o (o ∷ []) ≡ 1
+one_here o = rw (eq-eqb o o refl) refl
+
+pub none_there : (o q : ℕ) → ((q ≡ o) → ⊥) → count q (o ∷ []) ≡ 0
+none_there o q ne = rw (ne_eqb o q (λ e. ne (sym e))) refl
+
+pub has_count : (q : ℕ) (os : List ℕ) → has os q ≡ true → 0 < count q os
+has_count q [] e = absurd cc
+has_count q (o ∷ os) e = elim (cases_Bool (o == q)) [
+  | inl is ↦ rw is (omega arith)
+  | inr is ↦ let e' : has os q ≡ true = rw is at e in let r = has_count q os e' in omega arith
+]
+
+pub has_none : (q : ℕ) (os : List ℕ) → has os q ≡ false → count q os ≡ 0
+has_none q [] e = refl
+has_none q (o ∷ os) e = elim (cases_Bool (o == q)) [
+  | inl is ↦ absurd (let e' : true ≡ false = rw is at e in cc)
+  | inr is ↦ rw is (let e' : has os q ≡ false = rw is at e in let r = has_none q os e' in omega arith)
+]
+
+pub has_cond : {X : Type 0} (P : X → Type 0) (q : ℕ) (os : List ℕ) (x y : X) → (0 < count q os → P x) → (count q os ≡ 0 → P y) → P (cond (has os q) x y)
+has_cond P q os x y here there = elim (cases_Bool (has os q)) [
+  | inl e ↦ rw e (here (has_count q os e))
+  | inr e ↦ rw e (there (has_none q os e))
+]
+
+pub count_has : (q : ℕ) (os : List ℕ) → 0 < count q os → has os q ≡ true
+count_has q os some = elim (cases_Bool (has os q)) [
+  | inl e ↦ e
+  | inr e ↦ absurd (let none = has_none q os e in omega arith)
+]
+
+pub loses_one : (own : List ℕ) (o : ℕ) (left : List ℕ) → Exchanged own (o ∷ []) [] left → 0 < count o own
+loses_one own o left e = let a = e o in let b = one_here o in omega arith

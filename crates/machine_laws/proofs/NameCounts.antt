@@ -1,0 +1,125 @@
+-- How often objects are held by script names, name by name.
+use Rattle.std.proofs.Common.{◌≡◌, ◌≢◌, ℕ, zero, suc, ◌+◌, ◌<◌, ◌≤◌, ◌==◌, false, cond, List, [], ◌∷◌, length, map, Option, Some, None, slice_set, refl, ap, arith, inl, inr}
+use Rattle.std.specs.List.{filter_map}
+use Rattle.std.proofs.lemmas.Bool.{cases_Bool, cases_eq, ne_eqb, eqb-true}
+use Rattle.rl_defs.specs.declared.values.Value.{Value}
+use Rattle.rl_defs.specs.declared.values.Value.TheVariants as value
+use Rattle.rl_defs.specs.Loans.{count}
+use Rattle.rl_defs.specs.Wanted.{Names, held}
+use Rattle.rl_defs.specs.Crossing.{has, kept}
+use Rattle.rl_defs.specs.Machine.History.{objects_in}
+use Rattle.rl_defs.specs.Machine.Sound.{object_held}
+use Rattle.machine_laws.proofs.Counts.{one_here}
+
+-- the objects that names hold
+abbrev pub objects_of : Names → List ℕ
+objects_of names = filter_map object_held names
+
+-- how often an object is held by one name
+abbrev pub share : ℕ → Option Value → ℕ
+share p None = 0
+share p (Some (value.Num n)) = 0
+share p (Some (value.Obj o)) = count p (o ∷ [])
+share p (Some (value.Cap x)) = 0
+
+pub held_first : (p : ℕ) (v : Option Value) (names : Names) → count p (objects_of (v ∷ names)) ≡ share p v + count p (objects_of names)
+held_first p None names = omega arith
+held_first p (Some (value.Num n)) names = omega arith
+held_first p (Some (value.Obj o)) names = omega arith
+held_first p (Some (value.Cap x)) names = omega arith
+
+pub objects_first : (p : ℕ) (v : Value) (values : List Value) → count p (objects_in (v ∷ values)) ≡ share p (Some v) + count p (objects_in values)
+objects_first p (value.Num n) values = omega arith
+objects_first p (value.Obj o) values = omega arith
+objects_first p (value.Cap x) values = omega arith
+
+-- another value of one name
+pub held_set : (p : ℕ) (names : Names) (k : ℕ) (v : Option Value) → k < length names → count p (objects_of (slice_set names k v)) + share p (held names k) ≡ count p (objects_of names) + share p v
+held_set p [] k v lt = absurd (omega arith)
+held_set p (x ∷ names) zero v lt = omega (arith, held_first p v names, held_first p x names)
+held_set p (x ∷ names) (suc k) v lt = omega (arith, held_first p x (slice_set names k v), held_first p x names, held_set p names k v (omega arith))
+
+-- what one name holds is among what all hold
+pub held_least : (p : ℕ) (names : Names) (k : ℕ) → share p (held names k) ≤ count p (objects_of names)
+held_least p [] k = omega arith
+held_least p (x ∷ names) zero = omega (arith, held_first p x names)
+held_least p (x ∷ names) (suc k) = omega (arith, held_first p x names, held_least p names k)
+
+pub held_some : (names : Names) (k o : ℕ) → held names k ≡ Some (value.Obj o) → 0 < count o (objects_of names)
+held_some names k o is = let least = held_least o names k in let mine : share o (held names k) ≡ 1 = rw is (one_here o) in omega (arith, least, mine)
+
+-- an object that is held is held by some name
+pub held_by : (names : Names) (o : ℕ) → 0 < count o (objects_of names) → (k : ℕ) × (held names k ≡ Some (value.Obj o))
+held_by [] o some = absurd (omega arith)
+held_by (None ∷ names) o some = let r = held_by names o some in (suc r.0, r.1)
+held_by (Some (value.Num n) ∷ names) o some = let r = held_by names o some in (suc r.0, r.1)
+held_by (Some (value.Cap x) ∷ names) o some = let r = held_by names o some in (suc r.0, r.1)
+held_by (Some (value.Obj p) ∷ names) o some = elim (cases_Bool (p == o)) [
+  | inl e ↦ (zero, rw (eqb-true p o e) refl)
+  | inr e ↦ let some' : 0 < 0 + count o (objects_of names) = rw e at some in let r = held_by names o (omega arith) in (suc r.0, r.1)
+]
+
+-- an object that is held once is held by one name
+pub held_apart : (names : Names) (k l o : ℕ) → count o (objects_of names) ≤ 1 → held names k ≡ Some (value.Obj o) → held names l ≡ Some (value.Obj o) → k ≡ l
+held_apart [] k l o once a b = absurd cc
+held_apart (x ∷ names) zero zero o once a b = refl
+held_apart (x ∷ names) zero (suc l) o once a b =
+    let mine : share o x ≡ 1 = rw a (one_here o) in
+    absurd (omega (arith, once, held_first o x names, mine, held_some names l o b))
+held_apart (x ∷ names) (suc k) zero o once a b =
+    let mine : share o x ≡ 1 = rw b (one_here o) in
+    absurd (omega (arith, once, held_first o x names, mine, held_some names k o a))
+held_apart (x ∷ names) (suc k) (suc l) o once a b = ap (λ n. suc n) (held_apart names k l o (omega (arith, once, held_first o x names)) a b)
+
+-- a name of a list in which one was set
+pub held_set_same : (names : Names) (k : ℕ) (v : Option Value) → k < length names → held (slice_set names k v) k ≡ v
+held_set_same [] k v lt = absurd (omega arith)
+held_set_same (x ∷ names) zero v lt = refl
+held_set_same (x ∷ names) (suc k) v lt = held_set_same names k v (omega arith)
+
+pub held_set_other : (names : Names) (k j : ℕ) (v : Option Value) → j ≢ k → held (slice_set names k v) j ≡ held names j
+held_set_other [] k j v ne = refl
+held_set_other (x ∷ names) zero zero v ne = absurd (ne refl)
+held_set_other (x ∷ names) zero (suc j) v ne = refl
+held_set_other (x ∷ names) (suc k) zero v ne = refl
+held_set_other (x ∷ names) (suc k) (suc j) v ne = held_set_other names k j v (λ e. ne (ap (λ n. suc n) e))
+
+-- a name that is there
+pub held_within : (names : Names) (k : ℕ) (v : Value) → held names k ≡ Some v → k < length names
+held_within [] k v is = absurd cc
+held_within (x ∷ names) zero v is = omega arith
+held_within (x ∷ names) (suc k) v is = omega (arith, held_within names k v is)
+
+-- names that no longer hold what was moved
+pub held_kept : (moved : List ℕ) (names : Names) (k : ℕ) → held (map (kept moved) names) k ≡ kept moved (held names k)
+held_kept moved [] k = refl
+held_kept moved (x ∷ names) zero = refl
+held_kept moved (x ∷ names) (suc k) = held_kept moved names k
+
+pub kept_length : (moved : List ℕ) (names : Names) → length (map (kept moved) names) ≡ length names
+kept_length moved [] = refl
+kept_length moved (x ∷ names) = ap (λ n. suc n) (kept_length moved names)
+
+share_kept : (moved : List ℕ) (p : ℕ) (v : Option Value) → share p (kept moved v) ≡ cond (has moved p) 0 (share p v)
+share_kept moved p None = elim (cases_Bool (has moved p)) [ inl e ↦ rw e refl | inr e ↦ rw e refl ]
+share_kept moved p (Some (value.Num n)) = elim (cases_Bool (has moved p)) [ inl e ↦ rw e refl | inr e ↦ rw e refl ]
+share_kept moved p (Some (value.Cap x)) = elim (cases_Bool (has moved p)) [ inl e ↦ rw e refl | inr e ↦ rw e refl ]
+share_kept moved p (Some (value.Obj o)) = elim (cases_eq o p) [
+  | inl same ↦ rw same (elim (cases_Bool (has moved p)) [ inl e ↦ rw e refl | inr e ↦ rw e refl ])
+  | inr apart ↦
+      let other : (o == p) ≡ false = ne_eqb o p apart in
+      elim (cases_Bool (has moved o)) [
+        | inl a ↦ elim (cases_Bool (has moved p)) [ inl b ↦ rw (a, b) refl | inr b ↦ rw (a, b, other) refl ]
+        | inr a ↦ elim (cases_Bool (has moved p)) [ inl b ↦ rw (a, b, other) refl | inr b ↦ rw (a, b) refl ]
+      ]
+]
+
+pub count_kept : (moved : List ℕ) (p : ℕ) (names : Names) → count p (objects_of (map (kept moved) names)) ≡ cond (has moved p) 0 (count p (objects_of names))
+count_kept moved p [] = elim (cases_Bool (has moved p)) [ inl e ↦ rw e refl | inr e ↦ rw e refl ]
+count_kept moved p (x ∷ names) =
+    let deeper = count_kept moved p names in
+    let here = share_kept moved p x in
+    elim (cases_Bool (has moved p)) [
+      | inl e ↦ let a : share p (kept moved x) ≡ 0 = rw e at here in let b : count p (objects_of (map (kept moved) names)) ≡ 0 = rw e at deeper in rw e (omega (arith, held_first p (kept moved x) (map (kept moved) names), a, b))
+      | inr e ↦ let a : share p (kept moved x) ≡ share p x = rw e at here in let b : count p (objects_of (map (kept moved) names)) ≡ count p (objects_of names) = rw e at deeper in rw e (omega (arith, held_first p (kept moved x) (map (kept moved) names), held_first p x names, a, b))
+    ]

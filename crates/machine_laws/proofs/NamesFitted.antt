@@ -1,0 +1,118 @@
+-- Behind each step script names hold what suits, and clients with frames stand at the call of the lowest of them.
+use Rattle.std.proofs.Common.{◌≡◌, ◌≢◌, ℕ, true, List, Some, refl, ap, sym, subst, ◌∙◌, arith, inl, inr}
+use Rattle.std.proofs.lemmas.Bool.{cases_eq, eq-eqb, ne_eqb}
+use Rattle.rl_defs.specs.declared.values.Owner.{Owner}
+use Rattle.rl_defs.specs.declared.entry.Entry.{Entry}
+use Rattle.rl_defs.specs.declared.entry.Entry.TheVariants as entry
+use Rattle.rl_defs.specs.declared.load.Load.{Load}
+use Rattle.rl_defs.specs.State.{State, Object, Thread, row}
+use Rattle.rl_defs.specs.Loans.{object_of, sweep}
+use Rattle.rl_defs.specs.Texts.{thread_of}
+use Rattle.rl_defs.specs.Crossing.{is_undone}
+use Rattle.rl_defs.specs.Machine.NativeFits.{types_of, struct_or_none, is_target, trait_if}
+use Rattle.rl_defs.specs.Machine.Steps.{Row}
+use Rattle.machine_laws.specs.LedgerOf.{ledger_of}
+use Rattle.machine_laws.specs.LedgerSound.{Owned}
+use Rattle.machine_laws.specs.Shape.{Laid}
+use Rattle.machine_laws.specs.Plans.{Plans}
+use Rattle.machine_laws.specs.Registers.{HasTables}
+use Rattle.machine_laws.specs.Fitting.{NamesFit, Fitting}
+use Rattle.machine_laws.specs.AtCall.{AtCall}
+use Rattle.machine_laws.proofs.Objects.{found_below}
+use Rattle.machine_laws.proofs.Seats.{IsIn}
+use Rattle.machine_laws.proofs.Sweeps.{laid_sweep}
+use Rattle.machine_laws.proofs.Types.{AnyHow, Unchanged, structs_same, stays_sweep}
+use Rattle.machine_laws.proofs.LaidRows.{laid_row}
+use Rattle.machine_laws.proofs.Moves.{IsNew}
+use Rattle.machine_laws.proofs.StaysRows.{stays_swept, new_stays}
+use Rattle.machine_laws.proofs.FrameSteps.{types_with}
+use Rattle.machine_laws.proofs.NamesOwned.{name_there}
+use Rattle.machine_laws.proofs.AtCalls.{at_calls_kept, at_call_swept}
+use Rattle.machine_laws.proofs.Renaming.{Renamed, names_renamed, renamed_same}
+use Rattle.machine_laws.proofs.Going.{Goes}
+use Rattle.machine_laws.proofs.GoingRows.{types_behind, row_goes}
+
+module _ (L : Load) (s : State) (laid : Laid L s) where
+  -- objects that were there are of the same structs in the types behind an entry
+  types_before : (e : Entry) (z : State) → Row L s e z → (q : ℕ) → IsIn s q → (types_behind L s e).struct_of q ≡ (types_of L s).struct_of q
+  types_before (entry.New t w o ty values) z r q there =
+      let lt = (found_below 0 s.next_object q s.objects there.0 laid.objects there.1).1 in
+      let apart : q ≢ o = λ e. omega (arith, lt, e, r.number) in
+      rw (ne_eqb q o apart) refl
+  types_before e z r q there = refl
+
+  old_types : (e : Entry) (made : State) → (IsNew e → ⊥) → Row L s e made → (q : ℕ) → IsIn (sweep made) q → (types_of L (sweep made)).struct_of q ≡ (types_of L s).struct_of q
+  old_types e made old r q there = structs_same L AnyHow s (sweep made) q (stays_swept L s e made laid old r) there
+
+  new_types : (t : ℕ) (w : Owner) (o ty : ℕ) (values : List ℕ) (made : State) → Row L s (entry.New t w o ty values) made → (q : ℕ) → IsIn (sweep made) q → (types_of L (sweep made)).struct_of q ≡ (types_with L s o ty).struct_of q
+  new_types t w o ty values made r q there =
+      let swept = stays_sweep Unchanged (λ x. refl) L made (laid_row L s (entry.New t w o ty values) made laid r) q there.0 there.1 in
+      let in_made : object_of made q ≡ Some there.0 = swept.here ∙ ap (λ x. Some x) swept.alike in
+      let behind : (types_of L (sweep made)).struct_of q ≡ there.0.ty = ap (struct_or_none L) there.1 in
+      behind ∙ elim (new_stays L s t w o ty values made r q there.0 in_made) [
+        | inl old ↦
+            let lt = (found_below 0 s.next_object q s.objects there.0 laid.objects old).1 in
+            let apart : q ≢ o = λ e. omega (arith, lt, e, r.number) in
+            rw (ne_eqb q o apart) (sym (ap (struct_or_none L) old))
+        | inr new ↦ let is : q ≡ o = new.0 ∙ sym r.number in rw (eq-eqb q o is) (ap (λ (x : Object). x.ty) new.1)
+      ]
+
+  -- and objects that are there behind it and its sweep are of the structs there
+  types_after : (e : Entry) (made : State) → Row L s e made → (q : ℕ) → IsIn (sweep made) q → (types_of L (sweep made)).struct_of q ≡ (types_behind L s e).struct_of q
+  types_after (entry.New t w o ty values) made r q there = new_types t w o ty values made r q there
+  types_after (entry.Call t c x i m args) made r q there = old_types (entry.Call t c x i m args) made (λ no'. no') r q there
+  types_after (entry.Refuse t c why x m args) made r q there = old_types (entry.Refuse t c why x m args) made (λ no'. no') r q there
+  types_after (entry.Ret t c results) made r q there = old_types (entry.Ret t c results) made (λ no'. no') r q there
+  types_after (entry.Unwound t c) made r q there = old_types (entry.Unwound t c) made (λ no'. no') r q there
+  types_after (entry.Reload t x i left) made r q there = old_types (entry.Reload t x i left) made (λ no'. no') r q there
+  types_after (entry.Again t c x i) made r q there = old_types (entry.Again t c x i) made (λ no'. no') r q there
+  types_after (entry.Trap t i cause) made r q there = old_types (entry.Trap t i cause) made (λ no'. no') r q there
+  types_after (entry.Kill t i) made r q there = old_types (entry.Kill t i) made (λ no'. no') r q there
+  types_after (entry.Drop t o) made r q there = old_types (entry.Drop t o) made (λ no'. no') r q there
+  types_after (entry.Set t o k values) made r q there = old_types (entry.Set t o k values) made (λ no'. no') r q there
+  types_after (entry.Wput t i k v) made r q there = old_types (entry.Wput t i k v) made (λ no'. no') r q there
+  types_after (entry.Take t i slot o) made r q there = old_types (entry.Take t i slot o) made (λ no'. no') r q there
+  types_after (entry.Put t i slot o) made r q there = old_types (entry.Put t i slot o) made (λ no'. no') r q there
+  types_after (entry.DevGet t o b) made r q there = old_types (entry.DevGet t o b) made (λ no'. no') r q there
+  types_after (entry.DevPut t b o) made r q there = old_types (entry.DevPut t b o) made (λ no'. no') r q there
+  types_after (entry.Hang t o k v) made r q there = old_types (entry.Hang t o k v) made (λ no'. no') r q there
+  types_after (entry.Unhang t o k v) made r q there = old_types (entry.Unhang t o k v) made (λ no'. no') r q there
+  types_after (entry.Show t o values) made r q there = old_types (entry.Show t o values) made (λ no'. no') r q there
+  types_after (entry.Skip t number) made r q there = old_types (entry.Skip t number) made (λ no'. no') r q there
+  types_after (entry.Done t) made r q there = old_types (entry.Done t) made (λ no'. no') r q there
+  types_after (entry.Free o) made r q there = absurd r
+
+-- no type of a target changes
+traits_behind : (L : Load) (s : State) (e : Entry) (x : ℕ) → (types_behind L s e).trait_of x ≡ trait_if L (is_target L x) x
+traits_behind L s (entry.New t w o ty values) x = refl
+traits_behind L s e x = refl
+
+module _ (L : Load) (s : State) (plans : Plans L) (tables : HasTables L.tables) (laid : Laid L s) (owned : Owned L (ledger_of L s)) (fits : Fitting L s) (at : (u : ℕ) → AtCall L s u)
+    (e : Entry) (made : State) (ready : is_undone (row s.threads (thread_of e)) ≡ true) (makes : Row L s e made) where
+  goes : Goes L s made (thread_of e) (types_behind L s e)
+  goes = row_goes L s plans tables laid owned fits at e made ready makes
+
+  -- the names of each client fit behind a row and its sweep
+  pub names_fit : Owned L (ledger_of L (sweep made)) → (u : ℕ) (thread : Thread) → row (sweep made).threads u ≡ Some thread → NamesFit L (sweep made) u thread
+  names_fit owned' u thread of = elim (cases_eq u (thread_of e)) [
+    | inl same ↦
+        let of' : row made.threads (thread_of e) ≡ Some thread = ap (row made.threads) (sym same) ∙ of in
+        let new : goes.new ≡ thread = (let known = goes.turned.thread in cc (known, of')) in
+        subst (λ n. NamesFit L (sweep made) n thread) (sym same) (subst (NamesFit L (sweep made) (thread_of e)) new (fit (thread_of e) goes.old goes.new goes.of goes.turned.thread goes.renamed))
+    | inr apart ↦
+        let of_old : row s.threads u ≡ Some thread = sym (goes.turned.other_threads u apart) ∙ of in
+        fit u thread thread of_old of (renamed_same L (types_behind L s e) u thread thread refl (omega arith))
+  ]
+    where
+      swept : Laid L (sweep made)
+      swept = laid_sweep L made (laid_row L s e made laid makes)
+
+      fit : (v : ℕ) (old new : Thread) → row s.threads v ≡ Some old → row (sweep made).threads v ≡ Some new → Renamed L (types_behind L s e) v old new → NamesFit L (sweep made) v new
+      fit v old new was is renamed = names_renamed L s (sweep made) v (types_behind L s e) old new (fits.names v old was) renamed
+          (λ o some. types_before L s laid e made makes o (name_there L s laid owned v old was o some))
+          (λ o some. types_after L s laid e made makes o (name_there L (sweep made) swept owned' v new is o some))
+          (traits_behind L s e)
+
+  -- and each client with frames stands at the call of the lowest of them
+  pub at_calls_fit : (u : ℕ) → AtCall L (sweep made) u
+  at_calls_fit u = at_call_swept L made u (at_calls_kept L s made (thread_of e) goes.frames goes.new at goes.turned goes.stands u)

@@ -1,0 +1,235 @@
+-- A frame begins with the objects that its call moved as its own; and what holds of registers holds under each typing of their objects.
+use Rattle.std.proofs.Common.{◌≡◌, refl, sym, ◌∙◌, ap, ℕ, zero, suc, ◌+◌, ◌-◌, ◌<◌, ◌≤◌, ◌==◌, Bool, true, false, cond, not, ◌||◌, List, [], ◌∷◌, ◌++◌, length, map, Option, Some, None, slice_get, arith, one-add, suc-add, zero-add, append_assoc, length-append, inl, inr}
+use Rattle.std.specs.Prelude.{if◌then◌else◌, slice_set, replicate}
+use Rattle.std.specs.List.{slice_index_or, position_or_len}
+use Rattle.std.proofs.lemmas.List.{length-map}
+use Rattle.std.proofs.lemmas.Bool.{cases_Bool, eqb-true, false_from_ne_true}
+use Rattle.rl_defs.specs.declared.bundle.Numbered.{Numbered}
+use Rattle.rl_defs.specs.declared.values.Arg.{Arg}
+use Rattle.rl_defs.specs.declared.values.Arg.TheVariants as given
+use Rattle.rl_defs.specs.declared.values.Value.{Value}
+use Rattle.rl_defs.specs.declared.values.Value.TheVariants as value
+use Rattle.rl_defs.specs.declared.code.RegKind.{RegKind}
+use Rattle.rl_defs.specs.declared.code.RegKind.TheVariants as held
+use Rattle.rl_defs.specs.declared.code.Instr.{Instr}
+use Rattle.rl_defs.specs.declared.code.DomainLine.{DomainLine}
+use Rattle.rl_defs.specs.declared.code.DomainLine.TheVariants as line
+use Rattle.rl_defs.specs.declared.tables.Kind.{Kind}
+use Rattle.rl_defs.specs.declared.tables.Kind.TheVariants as kind
+use Rattle.rl_defs.specs.declared.tables.MethodRow.{MethodRow}
+use Rattle.rl_defs.specs.Words.{same_bytes}
+use Rattle.rl_defs.specs.DomainValue.{Domain}
+use Rattle.rl_defs.specs.Domains.{is_native, begins_function}
+use Rattle.rl_defs.specs.CodeNames.{methods_of, method_number, method_named, row_at, params_of, domain_trait}
+use Rattle.rl_defs.specs.CodeKinds.{Kinds, kinds_at, as_register, put_from, entry_kinds, after_line, left}
+use Rattle.rl_defs.specs.Loans.{count}
+use Rattle.rl_defs.specs.Crossing.{has, value_of, moved_of, lent_of, entry_registers}
+use Rattle.rl_defs.specs.CodeFits.{KeepsRules, Typing, fits_kind, Fits, FitsStand, FitsWaiting}
+use Rattle.rl_defs.specs.Instructions.{Registers, Stand}
+use Rattle.rl_defs.specs.LineRows.{entry_of, entry_at}
+use Rattle.rl_defs.specs.CodeLaws.{FitsArguments}
+use Rattle.rl_defs.proofs.CodeRegisters.{and_left, and_right}
+use Rattle.rl_defs.proofs.CodeBlocks.{some_line}
+use Rattle.rl_defs.proofs.CodeStands.{kinds_next}
+use Rattle.rl_defs.proofs.CodeEntries.{as_many, entries_fit}
+use Rattle.rl_defs.proofs.TableSizes.{small_method}
+use Rattle.machine_laws.specs.Registers.{own, Parted, passes_as, all_pass_as, Retyped}
+use Rattle.machine_laws.proofs.OwnCounts.{weight, weight_of, own_first}
+use Rattle.machine_laws.proofs.OwnMarks.{mark, parted_of}
+use Rattle.machine_laws.proofs.OwnAnswers.{one_more}
+
+-- the kinds at a function's first line are the parameters', and no others
+set_seam : (front : Kinds) (k y : RegKind) (rest : Kinds) → slice_set (front ++ k ∷ rest) (length front) y ≡ front ++ y ∷ rest
+set_seam [] k y rest = refl
+set_seam (x ∷ front) k y rest = ap (λ xs. x ∷ xs) (set_seam front k y rest)
+
+put_behind : (front : Kinds) (ks : List Kind) (j : ℕ) → put_from (length front) ks (front ++ replicate (length ks + j) held.Empty) ≡ front ++ (map as_register ks ++ replicate j held.Empty)
+put_behind front [] j = rw zero-add refl
+put_behind front (k ∷ ks) j =
+    let rest = replicate (length ks + j) held.Empty in
+    let one : List RegKind = as_register k ∷ [] in
+    let count : length front + 1 ≡ length (front ++ one) = omega (arith, length-append front one) in
+    ap (λ n. put_from (length front + 1) ks (slice_set (front ++ replicate n held.Empty) (length front) (as_register k))) (suc-add (length ks) j)
+    ∙ (ap (put_from (length front + 1) ks) (set_seam front held.Empty (as_register k) rest ∙ sym (append_assoc front one rest))
+    ∙ (ap (λ n. put_from n ks ((front ++ one) ++ rest)) count
+    ∙ (put_behind (front ++ one) ks j ∙ append_assoc front one (map as_register ks ++ replicate j held.Empty))))
+
+entry_is : (ks : List Kind) → length ks ≤ 32 → entry_kinds ks ≡ map as_register ks ++ replicate (32 - length ks) held.Empty
+entry_is ks le =
+    let all : length ks + (32 - length ks) ≡ 32 = omega arith in
+    ap (λ n. put_from 0 ks (replicate n held.Empty)) (sym all) ∙ put_behind [] ks (32 - length ks)
+
+-- the line before a function's first line is its head
+pub passes_first : {A : Type 0} (test : A → Bool) (xs : List A) (x : A) → slice_get xs (position_or_len test xs) ≡ Some x → test x ≡ true
+passes_first test [] x here = absurd (cc)
+passes_first {A = A} test (y ∷ xs) x here = elim (cases_Bool (test y)) [
+  | inl is ↦
+      let first : slice_get (y ∷ xs) (position_or_len test (y ∷ xs)) ≡ Some y = ap (λ (b : Bool). slice_get (y ∷ xs) (cond (not b) (1 + position_or_len test xs) 0)) is in
+      let same : y ≡ x = cc in
+      ap test (sym same) ∙ is
+  | inr isn't ↦
+      let later : slice_get (y ∷ xs) (position_or_len test (y ∷ xs)) ≡ slice_get xs (position_or_len test xs) =
+      ap (λ (b : Bool). slice_get (y ∷ xs) (cond (not b) (1 + position_or_len test xs) 0)) isn't ∙ ap (slice_get (y ∷ xs)) (one-add (position_or_len test xs)) in
+      passes_first test xs x (sym later ∙ here)
+]
+
+pub same_list : (xs ys : List ℕ) → same_bytes xs ys ≡ true → xs ≡ ys
+same_list [] [] e = refl
+same_list [] (y ∷ ys) e = absurd (cc)
+same_list (x ∷ xs) [] e = absurd (cc)
+same_list (x ∷ xs) (y ∷ ys) e =
+    let here : x ≡ y = eqb-true x y (and_left (x == y) (same_bytes xs ys) e) in
+    let rest : xs ≡ ys = same_list xs ys (and_right (x == y) (same_bytes xs ys) e) in
+    cc
+
+begins_kinds : (d : Domain) (kinds : Kinds) (name : List ℕ) (form : DomainLine) → begins_function name form ≡ true → after_line d kinds form ≡ entry_kinds (params_of (method_named d.tables (domain_trait d) name))
+begins_kinds d kinds name (line.Function n) b = ap (λ x. entry_kinds (params_of (method_named d.tables (domain_trait d) x))) (same_list n name b)
+begins_kinds d kinds name form b = absurd (cc)
+
+named_row : (d : Domain) (name : List ℕ) (m : ℕ) (row : MethodRow) → method_number d.tables (domain_trait d) name ≡ Some m → slice_get (methods_of d.tables (domain_trait d)) m ≡ Some row → params_of (method_named d.tables (domain_trait d) name) ≡ row.params
+named_row d name m row named here =
+    ap (λ o. params_of (row_at (methods_of d.tables (domain_trait d)) o)) named ∙ ap params_of here
+
+kinds_entered : (d : Domain) (types : Typing) (m place : ℕ) (args : List Arg) → (given : FitsArguments types d m args) → entry_at d m ≡ Some place → place < length d.lines → kinds_at d place ≡ entry_kinds given.method.params
+kinds_entered d types m place args given at within =
+    let name = given.method.name in
+    let test = λ (l : Numbered DomainLine). begins_function name l.form in
+    let p = position_or_len test d.lines in
+    let e : Some (p + 1) ≡ Some place = sym (ap (entry_of d) given.row) ∙ at in
+    let is : p + 1 ≡ place = cc in
+    let l = some_line d.lines p (omega arith) in
+    ap (kinds_at d) (sym is)
+    ∙ (kinds_next d p l.0 l.1
+    ∙ (begins_kinds d (kinds_at d p) name l.0.form (passes_first test d.lines l.0 l.1)
+    ∙ ap entry_kinds (named_row d name m given.method given.named given.row)))
+
+-- arguments in their registers
+empty_marks : (lent : List ℕ) (j r : ℕ) → mark lent (slice_index_or (replicate j held.Empty) r held.Empty) (slice_index_or (replicate j None) r None) ≡ true
+empty_marks lent zero r = refl
+empty_marks lent (suc j) zero = refl
+empty_marks lent (suc j) (suc r) = empty_marks lent j r
+
+-- arguments that a list of loans parts: none that is moved is in it, and each that is lent is
+record Parts (loans : List ℕ) (args : List Arg) : Type 0 where
+  moved : (o : ℕ) → 0 < count o (moved_of args) → has loans o ≡ false
+  lent : (o : ℕ) → 0 < count o (lent_of args) → has loans o ≡ true
+
+more_moved : (o : ℕ) (a : Arg) (args : List Arg) → count o (moved_of (a ∷ args)) ≡ count o (moved_of (a ∷ [])) + count o (moved_of args)
+more_moved o (given.Moved q) args = omega arith
+more_moved o a args = omega arith
+
+more_lent : (o : ℕ) (a : Arg) (args : List Arg) → count o (lent_of (a ∷ args)) ≡ count o (lent_of (a ∷ [])) + count o (lent_of args)
+more_lent o (given.Lent q) args = omega arith
+more_lent o a args = omega arith
+
+parts_first : (lent : List ℕ) (a : Arg) (args : List Arg) → Parts lent (a ∷ args) → Parts lent (a ∷ [])
+parts_first lent a args parts = record {
+  moved = λ o some. parts.moved o (omega (arith, more_moved o a args));
+  lent = λ o some. parts.lent o (omega (arith, more_lent o a args));
+}
+
+parts_rest : (lent : List ℕ) (a : Arg) (args : List Arg) → Parts lent (a ∷ args) → Parts lent args
+parts_rest lent a args parts = record {
+  moved = λ o some. parts.moved o (omega (arith, more_moved o a args));
+  lent = λ o some. parts.lent o (omega (arith, more_lent o a args));
+}
+
+arg_mark : (lent : List ℕ) (k : Kind) (a : Arg) → passes_as k a ≡ true → Parts lent (a ∷ []) → mark lent (as_register k) (Some (value_of a)) ≡ true
+arg_mark lent (kind.Own s) (given.Moved o) passes parts = ap not (parts.moved o (one_more o))
+arg_mark lent (kind.Own s) (given.Lent o) passes parts = cc
+arg_mark lent (kind.Lent s) (given.Lent o) passes parts = parts.lent o (one_more o)
+arg_mark lent (kind.Lent s) (given.Moved o) passes parts = cc
+arg_mark lent (kind.Own s) a passes parts = refl
+arg_mark lent (kind.Lent s) a passes parts = refl
+arg_mark lent k a passes parts = refl
+
+args_marked : (lent : List ℕ) (ks : List Kind) (args : List Arg) (j r : ℕ) → length ks ≡ length args → all_pass_as ks args ≡ true → Parts lent args → mark lent (slice_index_or (map as_register ks ++ replicate j held.Empty) r held.Empty) (slice_index_or (map (λ a. Some (value_of a)) args ++ replicate j None) r None) ≡ true
+args_marked lent [] [] j r many passes parts = empty_marks lent j r
+args_marked lent [] (a ∷ args) j r many passes parts = absurd (omega arith)
+args_marked lent (k ∷ ks) [] j r many passes parts = absurd (omega arith)
+args_marked lent (k ∷ ks) (a ∷ args) j zero many passes parts = arg_mark lent k a (and_left (passes_as k a) (all_pass_as ks args) passes) (parts_first lent a args parts)
+args_marked lent (k ∷ ks) (a ∷ args) j (suc r) many passes parts = args_marked lent ks args j r (omega arith) (and_right (passes_as k a) (all_pass_as ks args) passes) (parts_rest lent a args parts)
+
+arg_weight : (lent : List ℕ) (p : ℕ) (a : Arg) → Parts lent (a ∷ []) → weight lent p (Some (value_of a)) ≡ count p (moved_of (a ∷ []))
+arg_weight lent p (given.Num n) parts = refl
+arg_weight lent p (given.Moved o) parts = ap (weight_of p o) (parts.moved o (one_more o))
+arg_weight lent p (given.Lent o) parts = ap (weight_of p o) (parts.lent o (one_more o))
+arg_weight lent p (given.Cap x) parts = refl
+
+empty_count : (lent : List ℕ) (p j : ℕ) → count p (own lent (replicate j None)) ≡ 0
+empty_count lent p zero = refl
+empty_count lent p (suc j) = empty_count lent p j
+
+args_counted : (lent : List ℕ) (p j : ℕ) (args : List Arg) → Parts lent args → count p (own lent (map (λ a. Some (value_of a)) args ++ replicate j None)) ≡ count p (moved_of args)
+args_counted lent p j [] parts = empty_count lent p j
+args_counted lent p j (a ∷ args) parts =
+    omega (arith, own_first lent p (Some (value_of a)) (map (λ x. Some (value_of x)) args ++ replicate j None), arg_weight lent p a (parts_first lent a args parts), more_moved p a args, args_counted lent p j args (parts_rest lent a args parts))
+
+-- what is counted is there
+pub counted_has : (xs : List ℕ) (o : ℕ) → 0 < count o xs → has xs o ≡ true
+counted_has [] o some = absurd (omega arith)
+counted_has (x ∷ xs) o some = elim (cases_Bool (x == o)) [
+  | inl is ↦ rw is refl
+  | inr isn't ↦
+      let rest : count o (x ∷ xs) ≡ 0 + count o xs = ap (λ (b : Bool). (if b then 1 else 0) + count o xs) isn't in
+      rw isn't (counted_has xs o (omega arith))
+]
+
+pub has_counted : (xs : List ℕ) (o : ℕ) → has xs o ≡ true → 0 < count o xs
+has_counted [] o is = absurd (cc)
+has_counted (x ∷ xs) o is = elim (cases_Bool (x == o)) [
+  | inl same ↦ rw same (omega arith)
+  | inr other ↦
+      let rest : has xs o ≡ true = sym (ap (λ b. b || has xs o) other) ∙ is in
+      rw other (omega (arith, has_counted xs o rest))
+]
+
+unlent_of : (lent : List ℕ) (o : ℕ) → (has lent o ≡ true → ⊥) → has lent o ≡ false
+unlent_of lent o barred = false_from_ne_true (has lent o) barred
+
+-- A frame begins with registers that fit, and with what its call moved as its own.
+pub record BeginsOwn (types : Typing) (d : Domain) (place : ℕ) (args : List Arg) : Type 0 where
+  pub fits : FitsStand types d (record { at = place; regs = entry_registers args })
+  pub parted : Parted (lent_of args) (kinds_at d place) (entry_registers args)
+  pub counts : (p : ℕ) → count p (own (lent_of args) (entry_registers args)) ≡ count p (moved_of args)
+
+pub begins_own : (d : Domain) (types : Typing) (m place : ℕ) (args : List Arg) → KeepsRules d → is_native d.lines ≡ false → (given : FitsArguments types d m args) → entry_at d m ≡ Some place → all_pass_as given.method.params args ≡ true → ((o : ℕ) → 0 < count o (moved_of args) → 0 < count o (lent_of args) → ⊥) → BeginsOwn types d place args
+begins_own d types m place args keeps native given at passes apart =
+    let fits = entries_fit d types m place args keeps native given at in
+    let lent = lent_of args in
+    let ks = given.method.params in
+    let small = (small_method d.tables (domain_trait d) m given.method keeps.small given.row).params in
+    let many : length ks ≡ length args = as_many types ks (map value_of args) given.values ∙ length-map args value_of in
+    let parts : Parts lent args = record {
+      moved = λ o some. unlent_of lent o (λ is. apart o some (has_counted lent o is));
+      lent = λ o some. counted_has lent o some;
+    } in
+    record {
+      fits = fits;
+      parted = parted_of lent (kinds_at d place) (entry_registers args) (λ r.
+          ap (λ kinds. mark lent (slice_index_or kinds r held.Empty) (slice_index_or (entry_registers args) r None)) (kinds_entered d types m place args given at fits.within ∙ entry_is ks (omega arith))
+          ∙ (ap (λ n. mark lent (slice_index_or (map as_register ks ++ replicate (32 - n) held.Empty) r held.Empty) (slice_index_or (entry_registers args) r None)) many
+          ∙ args_marked lent ks args (32 - length args) r many passes parts));
+      counts = λ p. args_counted lent p (32 - length args) args parts;
+    }
+
+-- what fits one typing fits each that agrees with it
+kind_retyped : (types other : Typing) (k : RegKind) (v : Option Value) → ((o : ℕ) → v ≡ Some (value.Obj o) → other.struct_of o ≡ types.struct_of o) → ((x : ℕ) → other.trait_of x ≡ types.trait_of x) → fits_kind types k v ≡ true → fits_kind other k v ≡ true
+kind_retyped types other held.Empty None objects targets f = refl
+kind_retyped types other held.Num (Some (value.Num n)) objects targets f = refl
+kind_retyped types other (held.Own s) (Some (value.Obj o)) objects targets f = ap (λ n. n == s) (objects o refl) ∙ f
+kind_retyped types other (held.Lent s) (Some (value.Obj o)) objects targets f = ap (λ n. n == s) (objects o refl) ∙ f
+kind_retyped types other (held.Cap t) (Some (value.Cap x)) objects targets f = ap (λ n. n == t) (targets x) ∙ f
+kind_retyped types other k v objects targets f = absurd (cc)
+
+pub fits_retyped : (types other : Typing) (kinds : Kinds) (regs : Registers) → Retyped types other regs → Fits types kinds regs → Fits other kinds regs
+fits_retyped types other kinds regs re fit = record {
+  all = fit.all;
+  each = λ r. kind_retyped types other (slice_index_or kinds r held.Empty) (slice_index_or regs r None) (re.objects r) re.targets (fit.each r);
+}
+
+pub stand_retyped : (types other : Typing) (d : Domain) (s : Stand) → Retyped types other s.regs → FitsStand types d s → FitsStand other d s
+stand_retyped types other d s re stand = record { inside = stand.inside; reached = stand.reached; within = stand.within; regs = fits_retyped types other (kinds_at d s.at) s.regs re stand.regs }
+
+pub waiting_retyped : (types other : Typing) (d : Domain) (i : Instr) (s : Stand) → Retyped types other s.regs → FitsWaiting types d i s → FitsWaiting other d i s
+waiting_retyped types other d i s re waits = record { number = waits.number; here = waits.here; inside = waits.inside; regs = fits_retyped types other (left (kinds_at d s.at) i) s.regs re waits.regs }

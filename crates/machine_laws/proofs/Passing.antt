@@ -1,0 +1,76 @@
+-- The numbers up to a bound that pass a test.
+use Rattle.std.proofs.Common.{◌≡◌, ℕ, zero, suc, ◌+◌, ◌<◌, ◌≤◌, ◌==◌, Bool, true, false, cond, ◌||◌, List, [], ◌∷◌, ◌++◌, refl, sym, ◌∙◌, arith, inl, inr}
+use Rattle.std.proofs.lemmas.Bool.{cases_eq, cases_Bool, eq-eqb, ne_eqb, both_ways, cases_lt}
+use Rattle.std.proofs.Math.Bool.{or-false}
+use Rattle.rl_defs.specs.Loans.{count}
+use Rattle.rl_defs.specs.Crossing.{has}
+use Rattle.rl_defs.specs.Machine.Caused.{passing}
+use Rattle.machine_laws.proofs.Counts.{has_none}
+
+pub passing_same : (f g : ℕ → Bool) (n : ℕ) → ((o : ℕ) → 0 < o → o ≤ n → f o ≡ g o) → passing f n ≡ passing g n
+passing_same f g zero same = refl
+passing_same f g (suc n) same = rw (passing_same f g n (λ o pos le. same o pos (omega arith)), same (suc n) (omega arith) (omega arith)) refl
+
+pub has_append : (o : ℕ) (xs ys : List ℕ) → has (xs ++ ys) o ≡ (has xs o || has ys o)
+has_append o [] ys = refl
+has_append o (x ∷ xs) ys = elim (cases_Bool (x == o)) [
+  | inl e ↦ rw e refl
+  | inr e ↦ rw e (has_append o xs ys)
+]
+
+pub has_passing_above : (f : ℕ → Bool) (n o : ℕ) → n < o → has (passing f n) o ≡ false
+has_passing_above f zero o lt = refl
+has_passing_above f (suc n) o lt = rw (has_append o (passing f n) (cond (f (suc n)) (suc n ∷ []) []), has_passing_above f n o (omega arith)) (elim (cases_Bool (f (suc n))) [
+  | inl e ↦ rw (e, ne_eqb (suc n) o (λ is. omega arith)) refl
+  | inr e ↦ rw e refl
+])
+
+pub has_passing : (f : ℕ → Bool) (n o : ℕ) → 0 < o → o ≤ n → has (passing f n) o ≡ f o
+has_passing f zero o pos le = absurd (omega arith)
+has_passing f (suc n) o pos le = rw (has_append o (passing f n) (cond (f (suc n)) (suc n ∷ []) [])) (elim (cases_eq o (suc n)) [
+  | inl is ↦ rw (is, has_passing_above f n (suc n) (omega arith)) (elim (cases_Bool (f (suc n))) [
+    | inl e ↦ rw (e, eq-eqb (suc n) (suc n) refl) refl
+    | inr e ↦ rw e refl
+  ])
+  | inr ne ↦ rw (has_passing f n o pos (omega arith)) (elim (cases_Bool (f (suc n))) [
+    | inl e ↦ rw (e, ne_eqb (suc n) o (λ is. ne (sym is))) (or-false (f o))
+    | inr e ↦ rw e (or-false (f o))
+  ])
+])
+
+pub passing_some : (f : ℕ → Bool) (n : ℕ) → has (passing f n) 0 ≡ false
+passing_some f zero = refl
+passing_some f (suc n) = rw (has_append 0 (passing f n) (cond (f (suc n)) (suc n ∷ []) []), passing_some f n) (elim (cases_Bool (f (suc n))) [
+  | inl e ↦ rw (e, ne_eqb (suc n) 0 (λ is. omega arith)) refl
+  | inr e ↦ rw e refl
+])
+
+-- a number that is listed passes and is within the bound
+pub passing_only : (f : ℕ → Bool) (n o : ℕ) → has (passing f n) o ≡ true → (0 < o) × (o ≤ n) × (f o ≡ true)
+passing_only f n o is = elim (cases_eq o 0) [
+  | inl none ↦ absurd (both_ways (has (passing f n) 0) (passing_some f n) (rw none at is))
+  | inr some ↦ elim (cases_lt n o) [
+    | inl high ↦ absurd (both_ways (has (passing f n) o) (has_passing_above f n o high) is)
+    | inr low ↦ (omega arith, low, sym (has_passing f n o (omega arith) low) ∙ is)
+  ]
+]
+
+pub count_append : (o : ℕ) (xs ys : List ℕ) → count o (xs ++ ys) ≡ count o xs + count o ys
+count_append o [] ys = omega arith
+count_append o (x ∷ xs) ys = let r = count_append o xs ys in omega arith
+
+pub passing_once : (f : ℕ → Bool) (n o : ℕ) → count o (passing f n) ≤ 1
+passing_once f zero o = omega arith
+passing_once f (suc n) o =
+    let split = count_append o (passing f n) (cond (f (suc n)) (suc n ∷ []) []) in
+    let below = passing_once f n o in
+    elim (cases_Bool (f (suc n))) [
+      | inl e ↦ rw e (elim (cases_eq (suc n) o) [
+        | inl is ↦ (
+            let none = has_none o (passing f n) (has_passing_above f n o (omega arith)) in
+            let split' = count_append o (passing f n) (suc n ∷ []) in
+            rw (split', eq-eqb (suc n) o is) (omega arith))
+        | inr ne ↦ (let split' = count_append o (passing f n) (suc n ∷ []) in rw (split', ne_eqb (suc n) o ne) (omega arith))
+      ])
+      | inr e ↦ rw e (let split' = count_append o (passing f n) [] in rw split' (omega arith))
+    ]

@@ -1,0 +1,228 @@
+-- Shadows stand at the start and behind each row.
+use Rattle.std.proofs.Common.{◌≡◌, ◌≢◌, ℕ, zero, suc, ◌+◌, ◌-◌, ◌<◌, ◌≤◌, ◌==◌, cond, List, [], ◌∷◌, ◌++◌, length, map, Some, None, slice_get, slice_set, refl, ap, sym, subst, ◌∙◌, arith, inl, inr}
+use Rattle.std.proofs.lemmas.Bool.{cases_eq, eq-eqb, ne_eqb}
+use Rattle.rl_defs.specs.declared.entry.Entry.{Entry}
+use Rattle.rl_defs.specs.declared.entry.Entry.TheVariants as entry
+use Rattle.rl_defs.specs.declared.load.Load.{Load}
+use Rattle.rl_defs.specs.declared.load.LoadRow.{LoadRow}
+use Rattle.rl_defs.specs.declared.load.ShadowRow.{ShadowRow}
+use Rattle.rl_defs.specs.Domains.{load_row, load_of_target}
+use Rattle.rl_defs.specs.State.{State, Instance, Shadow, row, first_instance, first_instances, first_shadow, start}
+use Rattle.rl_defs.specs.Loans.{sweep as sweep_state}
+use Rattle.rl_defs.specs.Wanted.{instance_load, load_of_instance}
+use Rattle.rl_defs.specs.Machine.CallRows.{Reloads, instance_for}
+use Rattle.rl_defs.specs.Machine.Steps.{Row}
+use Rattle.rl_defs.specs.Machine.Sound.{ShadowsStand, instances_of}
+use Rattle.machine_laws.specs.Shape.{Laid}
+use Rattle.machine_laws.specs.Plans.{Plans}
+use Rattle.machine_laws.proofs.Rows.{row_within, row_set_same, row_set_other}
+use Rattle.machine_laws.proofs.ReloadRow.{row_append_last, row_append_other}
+use Rattle.machine_laws.proofs.CodeDoing.{load_there}
+use Rattle.machine_laws.proofs.ShadowsKept.{same_row, still_stand}
+
+abbrev hit : ℕ → ℕ → ℕ
+hit n k = cond (n == k) 1 0
+
+-- how many instances of a load there are behind one more
+counted_more : (k : ℕ) (xs : List Instance) (y : Instance) → instances_of k (xs ++ y ∷ []) ≡ instances_of k xs + hit y.load k
+counted_more k [] y = omega arith
+counted_more k (x ∷ xs) y = let more = counted_more k xs y in omega (arith, more)
+
+past_list : {A : Type 0} (xs : List A) (n : ℕ) → length xs ≤ n → slice_get xs n ≡ None
+past_list [] zero le = refl
+past_list [] (suc n) le = refl
+past_list (x ∷ xs) zero le = absurd (omega (arith, le))
+past_list (x ∷ xs) (suc n) le = past_list xs n (omega (arith, le))
+
+-- the load of a shadow's target is the shadow's
+shadow_load : (L : Load) (x : ℕ) (shadow : ShadowRow) → 0 < x - length L.loads → row L.shadows (x - length L.loads) ≡ Some shadow → load_of_target L x ≡ shadow.load
+shadow_load L zero shadow some is = absurd (omega (arith, some))
+shadow_load L (suc k) shadow some is =
+    let past : slice_get L.loads k ≡ None = past_list L.loads k (omega (arith, some)) in
+    let place : suc k - length L.loads ≡ suc (k - length L.loads) = omega (arith, some) in
+    let here : slice_get L.shadows (k - length L.loads) ≡ Some shadow = rw place at is in
+    rw (past, here) refl
+
+item_there : {A : Type 0} (xs : List A) (n : ℕ) → n < length xs → (y : A) × (slice_get xs n ≡ Some y)
+item_there [] n lt = absurd (omega (arith, lt))
+item_there (y ∷ ys) zero lt = (y, refl)
+item_there (y ∷ ys) (suc n) lt = item_there ys n (omega (arith, lt))
+
+row_there : {A : Type 0} (xs : List A) (n : ℕ) → 0 < n → n ≤ length xs → (y : A) × (row xs n ≡ Some y)
+row_there xs zero pos le = absurd (omega arith)
+row_there xs (suc n) pos le = item_there xs n (omega (arith, le))
+
+slice_row : {A : Type 0} (xs : List A) (k : ℕ) (y : A) → row xs k ≡ Some y → slice_get xs (k - 1) ≡ Some y
+slice_row xs zero y e = absurd cc
+slice_row xs (suc k) y e = let same : k ≡ suc k - 1 = omega arith in subst (λ n. slice_get xs n ≡ Some y) same e
+
+module _ (L : Load) (s : State) (t x i left : ℕ) (z : State) (plans : Plans L) (laid : Laid L s) (stand : ShadowsStand L s) (r : Reloads L s t x i left z) where
+  behind : (0 < x - length L.loads) × (x - length L.loads ≤ length s.shadows)
+  behind = row_within s.shadows (x - length L.loads) r.shadow r.of
+
+  abbrev now : Shadow
+  now = record { current = i; left = left }
+
+  own : (own : ShadowRow) × (row L.shadows (x - length L.loads) ≡ Some own)
+  own = row_there L.shadows (x - length L.loads) behind.0 (let e = laid.shadows in let b = behind.1 in omega (arith, e, b))
+
+  load_is : load_of_target L x ≡ own.0.load
+  load_is = shadow_load L x own.0 behind.0 own.1
+
+  loads_within : (k : ℕ) (y : ShadowRow) → row L.shadows k ≡ Some y → (0 < y.load) × (y.load ≤ length L.loads)
+  loads_within k y is = plans.targets.shadows (k - 1) y (slice_row L.shadows k y is)
+
+  found : (l : LoadRow) × (load_row L (load_of_target L x) ≡ Some l)
+  found = let w = loads_within (x - length L.loads) own.0 own.1 in load_there L (load_of_target L x) (rw load_is w.0) (rw load_is w.1)
+
+  abbrev fresh : Instance
+  fresh = first_instance L (load_of_target L x) found.0
+
+  instances_now : z.instances ≡ s.instances ++ fresh ∷ []
+  instances_now = ap (λ (y : State). y.instances) r.becomes ∙ ap (λ f. s.instances ++ instance_for L (load_of_target L x) f) found.1
+
+  shadows_now : z.shadows ≡ slice_set s.shadows (x - length L.loads - 1) now
+  shadows_now = ap (λ (y : State). y.shadows) r.becomes
+
+  load_of_new : instance_load z i ≡ own.0.load
+  load_of_new = ap (λ is'. load_of_instance (row is' i)) instances_now ∙ ap (λ n. load_of_instance (row (s.instances ++ fresh ∷ []) n)) r.number ∙ ap load_of_instance (row_append_last s.instances fresh) ∙ load_is
+
+  load_of_old : (j : ℕ) → j ≢ length s.instances + 1 → instance_load z j ≡ instance_load s j
+  load_of_old j ne = ap (λ is'. load_of_instance (row is' j)) instances_now ∙ ap load_of_instance (row_append_other s.instances fresh j ne)
+
+  -- the reloaded shadow
+  here_now : (shadow : Shadow) (y : ShadowRow) → row z.shadows (x - length L.loads) ≡ Some shadow → row L.shadows (x - length L.loads) ≡ Some y → (shadow ≡ now) × (y ≡ own.0)
+  here_now shadow y is there =
+      let set = row_set_same s.shadows (x - length L.loads) now behind.0 behind.1 in
+      let is' : row (slice_set s.shadows (x - length L.loads - 1) now) (x - length L.loads) ≡ Some shadow = sym (ap (λ xs. row xs (x - length L.loads)) shadows_now) ∙ is in
+      let both : Some now ≡ Some shadow = sym set ∙ is' in
+      let rows' : Some own.0 ≡ Some y = sym own.1 ∙ there in
+      (cc, cc)
+
+  -- the others
+  there_still : (k : ℕ) (shadow : Shadow) → k ≢ x - length L.loads → row z.shadows k ≡ Some shadow → row s.shadows k ≡ Some shadow
+  there_still k shadow ne is = sym (row_set_other s.shadows (x - length L.loads) k now behind.0 ne) ∙ sym (ap (λ xs. row xs k) shadows_now) ∙ is
+
+  apart : (k : ℕ) (y : ShadowRow) → k ≢ x - length L.loads → row L.shadows k ≡ Some y → load_of_target L x ≢ y.load
+  apart k y ne is same =
+      let w = row_within L.shadows k y is in
+      let one = plans.shadows.one (x - length L.loads - 1) (k - 1) own.0 y (slice_row L.shadows (x - length L.loads) own.0 own.1) (slice_row L.shadows k y is) (sym load_is ∙ same) in
+      ne (let b = behind.0 in let p = w.0 in omega (arith, one, b, p))
+
+  pub reload_stands : ShadowsStand L z
+  reload_stands = record { current = current'; left = left' }
+    where
+      current' : (k : ℕ) (shadow : Shadow) (y : ShadowRow) → row z.shadows k ≡ Some shadow → row L.shadows k ≡ Some y → instance_load z shadow.current ≡ y.load
+      current' k shadow y is there = elim (cases_eq k (x - length L.loads)) [
+        | inl e ↦ (let h = here_now shadow y (subst (λ n. row z.shadows n ≡ Some shadow) e is) (subst (λ n. row L.shadows n ≡ Some y) e there) in ap (λ (w : Shadow). instance_load z w.current) h.0 ∙ load_of_new ∙ sym (ap (λ (w : ShadowRow). w.load) h.1))
+        | inr ne ↦ (
+            let old = stand.current k shadow y (there_still k shadow ne is) there in
+            let some = (loads_within k y there).0 in
+            let opened : shadow.current ≢ length s.instances + 1 = λ e. (
+            let none : row s.instances shadow.current ≡ None = rw e (Rattle.machine_laws.proofs.Told.row_past s.instances (length s.instances + 1) (omega arith)) in
+            let zero' : instance_load s shadow.current ≡ 0 = ap load_of_instance none in
+            omega (arith, old, some, zero')) in
+            load_of_old shadow.current opened ∙ old)
+      ]
+
+      left' : (k : ℕ) (shadow : Shadow) (y : ShadowRow) → row z.shadows k ≡ Some shadow → row L.shadows k ≡ Some y → shadow.left + instances_of y.load z.instances ≡ y.restarts + 1
+      left' k shadow y is there =
+          let counted : instances_of y.load z.instances ≡ instances_of y.load s.instances + hit (load_of_target L x) y.load = ap (instances_of y.load) instances_now ∙ counted_more y.load s.instances fresh in
+          elim (cases_eq k (x - length L.loads)) [
+            | inl e ↦ (
+                let h = here_now shadow y (subst (λ n. row z.shadows n ≡ Some shadow) e is) (subst (λ n. row L.shadows n ≡ Some y) e there) in
+                let old = stand.left (x - length L.loads) r.shadow y r.of (subst (λ n. row L.shadows n ≡ Some y) e there) in
+                let same' : load_of_target L x ≡ y.load = load_is ∙ sym (ap (λ (w : ShadowRow). w.load) h.1) in
+                let one : hit (load_of_target L x) y.load ≡ 1 = rw (eq-eqb (load_of_target L x) y.load same') refl in
+                let now' : shadow.left ≡ left = ap (λ (w : Shadow). w.left) h.0 in
+                let spent = r.restarts in
+                omega (arith, counted, old, one, now', spent))
+            | inr ne ↦ (
+                let old = stand.left k shadow y (there_still k shadow ne is) there in
+                let none : hit (load_of_target L x) y.load ≡ 0 = rw (ne_eqb (load_of_target L x) y.load (apart k y ne there)) refl in
+                omega (arith, counted, old, none))
+          ]
+
+-- Shadows stand behind each row, and behind the sweep, which leaves them.
+pub shadows_stand : (L : Load) (s : State) (e : Entry) (made : State) → Plans L → Laid L s → ShadowsStand L s → Row L s e made → ShadowsStand L (sweep_state made)
+shadows_stand L s e made plans laid stand r = record { current = (behind e r).current; left = (behind e r).left }
+  where
+    behind : (e : Entry) → Row L s e made → ShadowsStand L made
+    behind (entry.Reload t x i left) r' = reload_stands L s t x i left made plans laid stand r'
+    behind (entry.Call t c x i m args) r' = still_stand L s made (same_row L s (entry.Call t c x i m args) made (λ n. n) r') stand
+    behind (entry.Refuse t c why x m args) r' = still_stand L s made (same_row L s (entry.Refuse t c why x m args) made (λ n. n) r') stand
+    behind (entry.Ret t c results) r' = still_stand L s made (same_row L s (entry.Ret t c results) made (λ n. n) r') stand
+    behind (entry.Unwound t c) r' = still_stand L s made (same_row L s (entry.Unwound t c) made (λ n. n) r') stand
+    behind (entry.Again t c x i) r' = still_stand L s made (same_row L s (entry.Again t c x i) made (λ n. n) r') stand
+    behind (entry.Trap t i cause) r' = still_stand L s made (same_row L s (entry.Trap t i cause) made (λ n. n) r') stand
+    behind (entry.Kill t i) r' = still_stand L s made (same_row L s (entry.Kill t i) made (λ n. n) r') stand
+    behind (entry.New t w o ty values) r' = still_stand L s made (same_row L s (entry.New t w o ty values) made (λ n. n) r') stand
+    behind (entry.Drop t o) r' = still_stand L s made (same_row L s (entry.Drop t o) made (λ n. n) r') stand
+    behind (entry.Set t o k values) r' = still_stand L s made (same_row L s (entry.Set t o k values) made (λ n. n) r') stand
+    behind (entry.Wput t i k v) r' = still_stand L s made (same_row L s (entry.Wput t i k v) made (λ n. n) r') stand
+    behind (entry.Take t i slot o) r' = still_stand L s made (same_row L s (entry.Take t i slot o) made (λ n. n) r') stand
+    behind (entry.Put t i slot o) r' = still_stand L s made (same_row L s (entry.Put t i slot o) made (λ n. n) r') stand
+    behind (entry.DevGet t o b) r' = still_stand L s made (same_row L s (entry.DevGet t o b) made (λ n. n) r') stand
+    behind (entry.DevPut t b o) r' = still_stand L s made (same_row L s (entry.DevPut t b o) made (λ n. n) r') stand
+    behind (entry.Hang t o k v) r' = still_stand L s made (same_row L s (entry.Hang t o k v) made (λ n. n) r') stand
+    behind (entry.Unhang t o k v) r' = still_stand L s made (same_row L s (entry.Unhang t o k v) made (λ n. n) r') stand
+    behind (entry.Show t o values) r' = still_stand L s made (same_row L s (entry.Show t o values) made (λ n. n) r') stand
+    behind (entry.Skip t number) r' = still_stand L s made (same_row L s (entry.Skip t number) made (λ n. n) r') stand
+    behind (entry.Done t) r' = still_stand L s made (same_row L s (entry.Done t) made (λ n. n) r') stand
+    behind (entry.Free o) r' = absurd r'
+
+-- the first instances are one of each load
+first_load : (L : Load) (k : ℕ) (ls : List LoadRow) (n : ℕ) → n < length ls → load_of_instance (slice_get (first_instances L k ls) n) ≡ k + n
+first_load L k [] n lt = absurd (omega (arith, lt))
+first_load L k (l ∷ ls) zero lt = omega arith
+first_load L k (l ∷ ls) (suc n) lt = first_load L (k + 1) ls n (omega (arith, lt)) ∙ omega arith
+
+none_before : (L : Load) (k n : ℕ) (ls : List LoadRow) → n < k → instances_of n (first_instances L k ls) ≡ 0
+none_before L k n [] lt = refl
+none_before L k n (l ∷ ls) lt =
+    let rest = none_before L (k + 1) n ls (omega (arith, lt)) in
+    let other : hit k n ≡ 0 = rw (ne_eqb k n (λ e. omega (arith, e, lt))) refl in
+    omega (arith, rest, other)
+
+first_count : (L : Load) (k n : ℕ) (ls : List LoadRow) → k ≤ n → n < k + length ls → instances_of n (first_instances L k ls) ≡ 1
+first_count L k n [] le lt = absurd (omega (arith, le, lt))
+first_count L k n (l ∷ ls) le lt = elim (cases_eq k n) [
+  | inl e ↦
+      let rest = none_before L (k + 1) n ls (omega (arith, e)) in
+      let one : hit k n ≡ 1 = rw (eq-eqb k n e) refl in
+      omega (arith, rest, one)
+  | inr ne ↦
+      let rest = first_count L (k + 1) n ls (omega (arith, le, ne)) (omega (arith, lt)) in
+      let other : hit k n ≡ 0 = rw (ne_eqb k n ne) refl in
+      omega (arith, rest, other)
+]
+
+first_shadows : (xs : List ShadowRow) (k : ℕ) (x : ShadowRow) (shadow : Shadow) → slice_get (map first_shadow xs) k ≡ Some shadow → slice_get xs k ≡ Some x → shadow ≡ first_shadow x
+first_shadows [] k x shadow a b = absurd cc
+first_shadows (y ∷ ys) zero x shadow a b = cc
+first_shadows (y ∷ ys) (suc k) x shadow a b = first_shadows ys k x shadow a b
+
+-- at the start a shadow stands for the first instance of its load
+pub shadows_start : (L : Load) → Plans L → ShadowsStand L (start L)
+shadows_start L plans = record { current = current'; left = left' }
+  where
+    is_first : (k : ℕ) (shadow : Shadow) (x : ShadowRow) → row (start L).shadows k ≡ Some shadow → row L.shadows k ≡ Some x → shadow ≡ first_shadow x
+    is_first zero shadow x a b = absurd cc
+    is_first (suc k) shadow x a b = first_shadows L.shadows k x shadow a b
+
+    within : (k : ℕ) (x : ShadowRow) → row L.shadows k ≡ Some x → (0 < x.load) × (x.load ≤ length L.loads)
+    within k x is = plans.targets.shadows (k - 1) x (slice_row L.shadows k x is)
+
+    load_at : (n : ℕ) → 0 < n → n ≤ length L.loads → instance_load (start L) n ≡ n
+    load_at zero pos le = absurd (omega arith)
+    load_at (suc n) pos le = first_load L 1 L.loads n (omega (arith, le)) ∙ omega arith
+
+    current' : (k : ℕ) (shadow : Shadow) (x : ShadowRow) → row (start L).shadows k ≡ Some shadow → row L.shadows k ≡ Some x → instance_load (start L) shadow.current ≡ x.load
+    current' k shadow x a b = let w = within k x b in ap (λ (y : Shadow). instance_load (start L) y.current) (is_first k shadow x a b) ∙ load_at x.load w.0 w.1
+
+    left' : (k : ℕ) (shadow : Shadow) (x : ShadowRow) → row (start L).shadows k ≡ Some shadow → row L.shadows k ≡ Some x → shadow.left + instances_of x.load (start L).instances ≡ x.restarts + 1
+    left' k shadow x a b =
+        let w = within k x b in
+        let left'' : shadow.left ≡ x.restarts = ap (λ (y : Shadow). y.left) (is_first k shadow x a b) in
+        let one = first_count L 1 x.load L.loads w.0 (let le = w.1 in omega (arith, le)) in
+        omega (arith, left'', one)

@@ -1,0 +1,72 @@
+-- What it tells that a thread wishes to call: the client's command, or the action of its top frame.
+use Rattle.std.proofs.Common.{◌≡◌, ℕ, ◌⊎◌, inl, inr, List, map, Option, Some, None, refl, subst}
+use Rattle.rl_defs.specs.declared.frame.Action.{Action}
+use Rattle.rl_defs.specs.declared.frame.Action.TheVariants as action
+use Rattle.rl_defs.specs.declared.load.Load.{Load}
+use Rattle.rl_defs.specs.declared.load.ScriptArg.{ScriptArg}
+use Rattle.rl_defs.specs.declared.load.Command.{Command}
+use Rattle.rl_defs.specs.declared.load.Command.TheVariants as command
+use Rattle.rl_defs.specs.State.{State, StackFrame, Thread, row}
+use Rattle.rl_defs.specs.Wanted.{Want, Nothing, Finishes, Skips, Commands, Acts, arg_of}
+use Rattle.rl_defs.specs.Crossing.{Wish, client_wish}
+use Rattle.rl_defs.specs.Machine.Wants.{wanted}
+use Rattle.rl_defs.specs.Machine.Calling.{wish, wish_in, wish_of, frame_wish}
+
+-- the client's command is the call
+pub record ClientWish (L : Load) (s : State) (t : ℕ) (w : Wish) : Type 0 where
+  pub thread : Thread
+  pub of : row s.threads t ≡ Some thread
+  pub given : List ScriptArg
+  pub names : List ℕ
+  pub wants : wanted L s t ≡ Commands (command.Call w.target w.method given names)
+  pub is : w ≡ client_wish L s t thread w.target w.method (map (arg_of thread.names) given)
+
+-- the top frame's action is the call
+pub record FrameWish (L : Load) (s : State) (t : ℕ) (w : Wish) : Type 0 where
+  pub thread : Thread
+  pub of : row s.threads t ≡ Some thread
+  pub fuel : ℕ
+  pub frame : StackFrame
+  pub wants : wanted L s t ≡ Acts (action.Call w.target w.method w.args) fuel frame
+  pub is : w ≡ frame_wish L s t thread w.target w.method w.args fuel frame
+
+pub wish_as : (L : Load) (s : State) (t : ℕ) (w : Wish) → wish L s t ≡ Some w → ClientWish L s t w ⊎ FrameWish L s t w
+wish_as L s t w e = by_row (row s.threads t) refl
+  where
+    by_row : (thread : Option Thread) → row s.threads t ≡ thread → ClientWish L s t w ⊎ FrameWish L s t w
+    by_row None of = absurd (let e' : wish_in L s t None ≡ Some w = rw of at e in cc)
+    by_row (Some thread) of = by_want (wanted L s t) refl (let e' : wish_in L s t (Some thread) ≡ Some w = rw of at e in e')
+      where
+        of_command : (next : Command) → wanted L s t ≡ Commands next → wish_of L s t thread (Commands next) ≡ Some w → ClientWish L s t w ⊎ FrameWish L s t w
+        of_command (command.Call x m given names) is h =
+            let same : client_wish L s t thread x m (map (arg_of thread.names) given) ≡ w = cc in
+            subst (λ v. ClientWish L s t v ⊎ FrameWish L s t v) same (inl (record { thread = thread; of = of; given = given; names = names; wants = is; is = refl }))
+        of_command (command.Let name ty values) is h = absurd cc
+        of_command (command.Text name ty bytes) is h = absurd cc
+        of_command (command.Show name) is h = absurd cc
+        of_command (command.Drop name) is h = absurd cc
+        of_command (command.Kill target) is h = absurd cc
+
+        of_action : (act : Action) (fuel : ℕ) (frame : StackFrame) → wanted L s t ≡ Acts act fuel frame → wish_of L s t thread (Acts act fuel frame) ≡ Some w → ClientWish L s t w ⊎ FrameWish L s t w
+        of_action (action.Call x m args) fuel frame is h =
+            let same : frame_wish L s t thread x m args fuel frame ≡ w = cc in
+            subst (λ v. ClientWish L s t v ⊎ FrameWish L s t v) same (inr (record { thread = thread; of = of; fuel = fuel; frame = frame; wants = is; is = refl }))
+        of_action (action.New ty) fuel frame is h = absurd cc
+        of_action (action.Drop o) fuel frame is h = absurd cc
+        of_action (action.Set o k values) fuel frame is h = absurd cc
+        of_action (action.Wput k v) fuel frame is h = absurd cc
+        of_action (action.Take k) fuel frame is h = absurd cc
+        of_action (action.Put k o) fuel frame is h = absurd cc
+        of_action (action.DevGet o b) fuel frame is h = absurd cc
+        of_action (action.DevPut b o) fuel frame is h = absurd cc
+        of_action (action.Hang o k v) fuel frame is h = absurd cc
+        of_action (action.Unhang o k) fuel frame is h = absurd cc
+        of_action (action.Ret results) fuel frame is h = absurd cc
+        of_action (action.Trap cause) fuel frame is h = absurd cc
+
+        by_want : (want : Want) → wanted L s t ≡ want → wish_of L s t thread (wanted L s t) ≡ Some w → ClientWish L s t w ⊎ FrameWish L s t w
+        by_want Nothing is h = absurd (let h' : wish_of L s t thread Nothing ≡ Some w = rw is at h in cc)
+        by_want Finishes is h = absurd (let h' : wish_of L s t thread Finishes ≡ Some w = rw is at h in cc)
+        by_want (Skips k) is h = absurd (let h' : wish_of L s t thread (Skips k) ≡ Some w = rw is at h in cc)
+        by_want (Commands next) is h = of_command next is (let h' : wish_of L s t thread (Commands next) ≡ Some w = rw is at h in h')
+        by_want (Acts act fuel frame) is h = of_action act fuel frame is (let h' : wish_of L s t thread (Acts act fuel frame) ≡ Some w = rw is at h in h')

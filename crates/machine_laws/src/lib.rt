@@ -1,0 +1,38 @@
+//! Laws of the domain machine: functions with nothing to do, whose contracts are facts about every run of every load that an accepted bundle
+//! stands for. The laws are stated in `rl_defs`, `specs/Machine/Laws.antt`.
+#![tactic(auto)]
+
+ghost use Rattle.rl_defs.specs.Machine.Laws.{HistoriesTellLaws, StatesAreSound, CallsCloseOnce, SomeThreadIsEnabled, EndsLeaveAlone, StepsAreDetermined};
+
+/// What the history of every run tells: each call is answered with its cause, each object has one owner at a time and is given up once, what
+/// is freed has a cause, and the words and slots of an instance change only by what it does itself.
+pub fn histories_tell_laws()
+    ensures { HistoriesTellLaws }
+{}
+
+/// Every state of every run is sound: each object that a live owner has is in one place of it, what is lent is a root that its owner keeps
+/// until the last loan ends, frames stand where their code is, and what registers, slots and script names hold is of the kinds that code
+/// and commands give them.
+pub fn states_are_sound()
+    ensures { StatesAreSound }
+{}
+
+/// In a whole run each call is closed exactly once.
+pub fn calls_close_once()
+    ensures { CallsCloseOnce }
+{}
+
+/// No run is stuck: while a client isn't done, some thread is enabled.
+pub fn some_thread_is_enabled()
+    ensures { SomeThreadIsEnabled }
+{}
+
+/// An end of an instance, by a trap or a kill, leaves all other instances and all frames as they are, and frees its own objects alone.
+pub fn ends_leave_alone()
+    ensures { EndsLeaveAlone }
+{}
+
+/// A step is determined by the state and its entry, but for the action that a native body chooses behind it.
+pub fn steps_are_determined()
+    ensures { StepsAreDetermined }
+{}
