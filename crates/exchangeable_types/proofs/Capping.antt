@@ -1,6 +1,6 @@
 -- Kinds that are put behind others, up to a limit.
-use Rattle.std.proofs.Common.{◌≡◌, ℕ, zero, suc, ◌+◌, ◌-◌, ◌*◌, ◌<◌, ◌≤◌, min, List, [], ◌∷◌, ◌++◌, length, take, replicate, inl, inr, refl, sym, ap, subst, ◌∙◌, arith, length-append}
-use Rattle.std.proofs.Math.Nat.{mul-le-mul_left}
+use Rattle.std.proofs.Common.{◌≡◌, ℕ, zero, suc, ◌+◌, ◌-◌, ◌*◌, ◌/◌, ◌%◌, ◌<◌, ◌≤◌, min, List, [], ◌∷◌, ◌++◌, length, take, replicate, inl, inr, refl, sym, ap, subst, ◌∙◌, arith, append_assoc, length-append}
+use Rattle.std.proofs.Math.Nat.{mul-le-mul_left, div-add-mod}
 use Rattle.std.proofs.lemmas.Bool.{cases_lt}
 use Rattle.std.proofs.lemmas.List.{append-nil, take_all}
 use Rattle.std.specs.Option.{option_to_list}
@@ -40,6 +40,28 @@ filled list items more k times whole old same len room is =
     ∙ ap (λ (n : ℕ). items ++ replicate n k) count
     ∙ ap (λ (xs : List Kind). items ++ xs) (copies_one times k)
     ∙ ap (λ (xs : List Kind). xs ++ copies times (k ∷ [])) same
+
+-- copies behind copies
+copies_add : (m n : ℕ) (kinds : List Kind) → copies (m + n) kinds ≡ copies m kinds ++ copies n kinds
+copies_add zero n kinds = ap (λ (k : ℕ). copies k kinds) (omega arith)
+copies_add (suc m) n kinds =
+    let more : suc m + n ≡ suc (m + n) = omega arith in
+    ap (λ (k : ℕ). copies k kinds) more ∙ ap (λ (ks : List Kind). kinds ++ ks) (copies_add m n kinds) ∙ sym (append_assoc kinds (copies m kinds) (copies n kinds))
+
+-- copies of copies
+copies_mul : (m n : ℕ) (kinds : List Kind) → copies m (copies n kinds) ≡ copies (m * n) kinds
+copies_mul zero n kinds = let none : 0 ≡ zero * n = omega arith in ap (λ (k : ℕ). copies k kinds) none
+copies_mul (suc m) n kinds =
+    let more : n + m * n ≡ suc m * n = omega arith in
+    ap (λ (ks : List Kind). copies n kinds ++ ks) (copies_mul m n kinds) ∙ sym (copies_add n (m * n) kinds) ∙ ap (λ (k : ℕ). copies k kinds) more
+
+-- copies by blocks of 16, and the rest behind them
+pub by_blocks : (times : ℕ) (kinds block old more last : List Kind) → block ≡ copies 16 kinds → more ≡ old ++ copies (times / 16) block → last ≡ more ++ copies (times % 16) kinds → last ≡ old ++ copies times kinds
+by_blocks times kinds block old more last b m l =
+    let whole : times / 16 * 16 + times % 16 ≡ times = omega (arith, div-add-mod times 16) in
+    let blocks : copies (times / 16) block ≡ copies (times / 16 * 16) kinds = ap (λ (ks : List Kind). copies (times / 16) ks) b ∙ copies_mul (times / 16) 16 kinds in
+    let both : copies (times / 16) block ++ copies (times % 16) kinds ≡ copies times kinds = ap (λ (ks : List Kind). ks ++ copies (times % 16) kinds) blocks ∙ sym (copies_add (times / 16 * 16) (times % 16) kinds) ∙ ap (λ (n : ℕ). copies n kinds) whole in
+    l ∙ ap (λ (ks : List Kind). ks ++ copies (times % 16) kinds) m ∙ append_assoc old (copies (times / 16) block) (copies (times % 16) kinds) ∙ ap (λ (ks : List Kind). old ++ ks) both
 
 -- where the counted copies are few, they are all
 pub same_copies : (limit t n : ℕ) (kinds : List Kind) → limit ≤ 512 → t ≡ min 513 n → length kinds * t ≤ limit → copies t kinds ≡ copies n kinds

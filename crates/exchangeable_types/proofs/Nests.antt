@@ -1,6 +1,6 @@
 -- The steps of a search for an RRef of a struct that holds an RRef, and what it says of cells.
-use Rattle.std.proofs.Common.{◌≡◌, ℕ, Bool, true, false, zero, suc, ◌+◌, ◌*◌, ◌<◌, ◌≤◌, List, [], ◌∷◌, ◌++◌, length, drop, Option, Some, None, ◌⊎◌, inl, inr, refl, sym, ap, subst, ◌∙◌, arith, length-append}
-use Rattle.std.specs.Prelude.{slice_get}
+use Rattle.std.proofs.Common.{◌≡◌, ℕ, Bool, true, false, zero, suc, ◌+◌, ◌*◌, ◌<◌, ◌≤◌, List, [], ◌∷◌, ◌++◌, length, drop, Option, Some, None, ◌⊎◌, inl, inr, refl, sym, ap, subst, ◌∙◌, arith}
+use Rattle.std.specs.Prelude.{slice_get, slice_set}
 use Rattle.std.specs.Option.{option_to_list}
 use Rattle.std.proofs.lemmas.List.{append-nil}
 use Rattle.rl_defs.proofs.Places.{get_front, get_seam, get_last}
@@ -9,16 +9,14 @@ use Rattle.rl_defs.specs.declared.tables.Kind.{Kind}
 use Rattle.rl_defs.specs.declared.tables.Kind.TheVariants as kind
 use Rattle.rl_defs.specs.Interfaces.{Lines, types_at, types_of, fields_of, struct_names}
 use Rattle.rl_defs.specs.Flattening.{struct_held, kind_held, times_of, copies, Flattens, Ends, Plain, Fields}
-use Rattle.rl_defs.specs.Holding.{HasField, HoldsRRef}
 use Rattle.exchangeable_types.specs.Numbering.{field_type}
 use Rattle.exchangeable_types.specs.Walk.{StartsAt}
 use Rattle.exchangeable_types.specs.Search.{StandsIn, Searching, unmarked_count, Marks}
 use Rattle.exchangeable_types.specs.Rows.{NestedCell, IsNested}
-use Rattle.exchangeable_types.specs.Nesting.{Nesting, IsNesting, HasNesting, IsFree, Passing, Passed, IsPassed, IsNestAnswer}
+use Rattle.exchangeable_types.specs.Nesting.{Nesting, IsNesting, IsFree, Passing, Passed, IsPassed, IsNestAnswer}
 use Rattle.exchangeable_types.proofs.Starts.{types_at_start}
 use Rattle.exchangeable_types.proofs.Walks.{fields_none}
-use Rattle.exchangeable_types.proofs.Searches.{field_here, split_on}
-use Rattle.exchangeable_types.proofs.RowLaws.{nested_found}
+use Rattle.exchangeable_types.proofs.Searches.{split_on, marks_one}
 
 -- a type of one kind
 pub nesting_kind : (lines : Lines) (ty : TypeText) (k : Kind) (seen : List Bool) (found : Bool) → kind_held lines ty ≡ Some k → IsNested lines (k ∷ []) seen found → IsNesting lines ty seen found
@@ -133,6 +131,13 @@ passing_begins lines passed new after first h lt m = record {
   ];
   below = λ s a. elim (m.more s a) [ inl b ↦ absurd (nothing_waits s b) | inr b ↦ omega (arith, b, lt, m.count) ];
 }
+
+-- the first struct was passed, and is looked at next
+pub first_passed : (lines : Lines) (passed : List Bool) (none : List ℕ) (first : ℕ) → Passing lines passed [] → first < length passed → slice_get passed first ≡ Some false → none ≡ [] → Passing lines (slice_set passed first true) (none ++ first ∷ []) × (slice_get (slice_set passed first true) first ≡ Some true)
+first_passed lines passed none first h lt read e =
+    let marks : Marks passed (slice_set passed first true) [] (first ∷ []) first = marks_one passed (slice_set passed first true) [] (first ∷ []) first read refl refl in
+    let begins = passing_begins lines passed (slice_set passed first true) (first ∷ []) first h lt marks in
+    (subst (λ (xs : List ℕ). Passing lines (slice_set passed first true) (xs ++ first ∷ [])) (sym e) begins, marks.here)
 
 -- where none was passed
 pub none_passing : (lines : Lines) (passed : List Bool) → length passed ≡ length (struct_names lines) → ((s : ℕ) → slice_get passed s ≡ Some true → ⊥) → Passing lines passed []

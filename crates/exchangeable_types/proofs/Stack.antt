@@ -181,6 +181,15 @@ stepped_in lines states new stack middle higher v t fresh_t is e = record {
   falls = omega (arith, e.more, ap length is, length-append stack (v ∷ []), ap fresh e.states, fresh_set states t New (Open (length middle)) fresh_t);
 }
 
+-- the first step of a visit of a struct that was new
+pub first_step : (lines : Lines) (old opened new : List State) (stack higher below after : List Visit) (number : ℕ) → slice_get old number ≡ Some New → Entered lines old opened stack higher number → Stepped lines opened new below after → StaysVisited old new × (slice_get new number ≡ Some New → ⊥)
+first_step lines old opened new stack higher below after number fresh_number e step = (λ s h. visited_set old number (Open (length stack)) (λ same. cc) s (before s h), λ h. apart (sym (before number h) ∙ get_set_same old number (Open (length stack)) (get_within old number New fresh_number))) where
+  before : (s : ℕ) → slice_get new s ≡ Some New → slice_get (slice_set old number (Open (length stack))) s ≡ Some New
+  before s h = subst (λ (xs : List State). slice_get xs s ≡ Some New) e.states (step.visited s h)
+
+  apart : Some New ≡ Some (Open (length stack)) → ⊥
+  apart h = cc
+
 pub nothing_open : (lines : Lines) (states : List State) → Walking lines states [] → (s i : ℕ) → slice_get states s ≡ Some (Open i) → ⊥
 nothing_open lines states w s i e = let o = w.opened s i e in let h = o.1 in cc
 

@@ -11,6 +11,9 @@ use rl_defs::tables::Kind;
 /// The most cells that a struct may have.
 pub const MOST: usize = 512;
 
+// How often the same kinds stand in a block.
+const BLOCK: u32 = 16;
+
 /// What types flatten to.
 #[derive(Debug, Drop)]
 pub enum Cells {
@@ -39,10 +42,35 @@ fn repeated(list: List<Kind>, kinds: &[Kind], times: u32) -> Result<List<Kind>, 
 {
     let mut items = list.into_vec();
     reserve(&mut items, kinds.len() * times as usize)?;
-    'times: for _ in 0..times {
-        append(&mut items, kinds)?;
+    if times < BLOCK {
+        append_times(&mut items, kinds, times)?;
+    } else {
+        append_blocks(&mut items, kinds, times)?;
     }
     Ok(List::from_vec(items))
+}
+
+// Puts so many times these kinds last. They are put together to a block first, so that there are fewer copies, of more kinds each.
+fn append_blocks(items: &mut Vec<Kind>, kinds: &[Kind], times: u32) -> Result<(), Memory>
+    requires many { 16 ≤ times }
+    requires room { length kinds.now * times ≤ 512 }
+    ensures { OnOk result (items.new.items ≡ items.old.items ++ copies times kinds.now) }
+{
+    let mut block = Vec::new(*items.allocator());
+    reserve(&mut block, kinds.len() * BLOCK as usize)?;
+    append_times(&mut block, kinds, BLOCK)?;
+    append_times(items, block.as_slice(), times / BLOCK)?;
+    append_times(items, kinds, times % BLOCK)
+}
+
+// Puts so many times these kinds last, each time for itself.
+fn append_times(items: &mut Vec<Kind>, kinds: &[Kind], times: u32) -> Result<(), Memory>
+    ensures { OnOk result (items.new.items ≡ items.old.items ++ copies times kinds.now) }
+{
+    'times: for _ in 0..times {
+        append(items, kinds)?;
+    }
+    Ok(())
 }
 
 // The list with so many times this kind behind it.

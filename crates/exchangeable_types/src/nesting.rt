@@ -70,8 +70,14 @@ pub fn may_nest(
     requires below { first < length (struct_names part.now.lines.now) }
     ensures { IfOk result (MayNest part.now.lines.now seen.new.items passed.new.items first) }
 {
+    if passed.as_slice()[first as usize] {
+        return Ok(false);
+    }
+    passed[first as usize] = true;
     let mut waiting = Vec::new(alloc);
-    mark(passed, &mut waiting, first)?;
+    if scan(alloc, part, seen, passed, &mut waiting, first)? {
+        return Ok(true);
+    }
     'search: while let Some(number) = waiting.pop() {
         if scan(alloc, part, seen, passed, &mut waiting, number)? {
             return Ok(true);

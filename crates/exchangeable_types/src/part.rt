@@ -1,7 +1,7 @@
 //! An interface part with look-ups of its names.
 ghost use Rattle.std.specs.Prelude.{◌≡◌, ℕ, ◌^◌, ◌<◌, List, Some, length, nat_eq, OnOk, IfOk, slice_get};
 ghost use Rattle.std.specs.Cmp.Lexicographic.{pointwise};
-ghost use Rattle.indexmap.specs.IndexMap.{get, Updates};
+ghost use Rattle.indexmap.specs.IndexMap.{get, IsEmpty, Updates};
 ghost use Rattle.rl_defs.specs.Interfaces.{place_of, struct_name, trait_name, struct_names, trait_names, struct_number, trait_number};
 ghost use Rattle.exchangeable_types.specs.Numbering.{noted, starts_from};
 
@@ -35,9 +35,9 @@ impl<'a> Part<'a> {
         requires { length lines.now < 2 ^ 32 }
         ensures { IfOk result (λ part. part.lines.now ≡ lines.now) }
     {
-        let structs = structs_by_name(alloc, lines)?;
-        let traits = traits_by_name(alloc, lines)?;
         let starts = starts_of(alloc, lines)?;
+        let structs = structs_by_name(alloc, lines, starts.len())?;
+        let traits = traits_by_name(alloc, lines)?;
         Ok(Part {
             lines,
             structs,
@@ -102,11 +102,26 @@ fn note(table: &mut NameTable, name: &Name, number: u32) -> Result<(), Memory>
     }
 }
 
-fn structs_by_name(alloc: Global, lines: &[Numbered<IdlLine>]) -> Result<NameTable, Memory>
+// A table with room for so many names.
+fn table_for(alloc: Global, names: usize) -> Result<NameTable, Memory>
+    ensures { IfOk result IsEmpty }
+{
+    match IndexMap::with_capacity(alloc, names) {
+        Ok(table) => Ok(table),
+        Err(_) => Err(Memory),
+    }
+}
+
+// The table has room for so many structs at once.
+fn structs_by_name(
+    alloc: Global,
+    lines: &[Numbered<IdlLine>],
+    structs: usize,
+) -> Result<NameTable, Memory>
     requires { length lines.now < 2 ^ 32 }
     ensures { IfOk result (λ t. (q : List ℕ) → get (pointwise nat_eq) t q ≡ place_of q (struct_names lines.now)) }
 {
-    let mut table = IndexMap::new(alloc);
+    let mut table = table_for(alloc, structs)?;
     let mut count = 0u32;
     'lines: for line in lines {
         if let Some(name) = struct_name(&line.form) {

@@ -191,7 +191,9 @@ fn none_seen(alloc: Global, part: &Part) -> Result<Vec<bool>, Memory>
     ensures searching { IfOk result (λ seen. Searching part.now.lines.now seen.items []) }
     ensures passing { IfOk result (λ seen. Passing part.now.lines.now seen.items []) }
 {
-    let mut seen = Vec::new(alloc);
+    let Ok(mut seen) = Vec::with_capacity(alloc, part.starts.len()) else {
+        return Err(Memory);
+    };
     'structs: for _ in 0..part.starts.len() {
         match seen.push(false) {
             Ok(()) => {}
@@ -215,7 +217,10 @@ pub fn struct_rows(alloc: Global, part: &Part) -> Result<List<StructRow>, LoadFa
     let Ok(mut passed) = none_seen(alloc, part) else {
         return Err(LoadFault::Memory);
     };
-    let mut rows = List::new(alloc);
+    let Ok(room) = Vec::with_capacity(alloc, part.starts.len()) else {
+        return Err(LoadFault::Memory);
+    };
+    let mut rows = List::from_vec(room);
     'structs: for number in 0..count(part) {
         if let Err(fault) = next_row(
             alloc,

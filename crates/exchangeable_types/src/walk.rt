@@ -122,26 +122,20 @@ fn push(stack: &mut Vec<Visit>, visit: Visit) -> Result<(), Memory>
     }
 }
 
-// Begins the visit of a new struct on top of the stack.
-fn enter(
-    alloc: Global,
-    part: &Part,
-    states: &mut Vec<State>,
-    stack: &mut Vec<Visit>,
-    number: u32,
-) -> Result<(), Memory>
-    requires walking { Walking part.now.lines.now states.old.items stack.old.items }
+// Begins the visit of a new struct. It stands on top of the stack, but isn't put there.
+fn begin(alloc: Global, part: &Part, states: &mut Vec<State>, stack: &[Visit], number: u32) -> Visit
+    requires walking { Walking part.now.lines.now states.old.items stack.now }
     requires new { slice_get states.old.items number ≡ Some State.New }
-    requires below { (i : ℕ) (v : VisitValue) → slice_get stack.old.items i ≡ Some v → Reaches part.now.lines.now v.number number }
-    ensures { OnOk result (Entered part.now.lines.now states.old.items states.new.items stack.old.items stack.new.items number) }
+    requires below { (i : ℕ) (v : VisitValue) → slice_get stack.now i ≡ Some v → Reaches part.now.lines.now v.number number }
+    ensures { Entered part.now.lines.now states.old.items states.new.items stack.now (stack.now ++ result ∷ []) number }
 {
     let visit = Visit {
         number,
         at: start_of(part, number) + 1,
         cells: Cells::Few(List::new(alloc)),
     };
-    set(states, number, State::Open(stack.as_slice().len()));
-    push(stack, visit)
+    set(states, number, State::Open(stack.len()));
+    visit
 }
 
 /// The place of the first line of a struct.
@@ -174,7 +168,8 @@ fn wait(
 {
     if is_new(&states[held as usize]) {
         push(stack, visit)?;
-        return enter(alloc, part, states, stack, held);
+        let inner = begin(alloc, part, states, stack.as_slice(), held);
+        return push(stack, inner);
     }
     set(states, visit.number, State::Endless);
     Ok(())
@@ -212,7 +207,8 @@ fn visit_from(
     ensures { OnOk result (Visited part.now.lines.now states.old.items states.new.items number) }
 {
     let mut stack = Vec::new(alloc);
-    enter(alloc, part, states, &mut stack, number)?;
+    let first = begin(alloc, part, states, stack.as_slice(), number);
+    step(alloc, part, states, &mut stack, first)?;
     'walk: while let Some(visit) = stack.pop() {
         step(alloc, part, states, &mut stack, visit)?;
     }
@@ -223,7 +219,9 @@ fn all_new(alloc: Global, count: usize) -> Result<Vec<State>, Memory>
     ensures count { IfOk result (λ states. length states.items ≡ count) }
     ensures new { IfOk result (λ states. (s : ℕ) (x : StateValue) → slice_get states.items s ≡ Some x → x ≡ State.New) }
 {
-    let mut states = Vec::new(alloc);
+    let Ok(mut states) = Vec::with_capacity(alloc, count) else {
+        return Err(Memory);
+    };
     'states: for _ in 0..count {
         match states.push(State::New) {
             Ok(()) => {}

@@ -1,4 +1,4 @@
-use Rattle.std.proofs.Common.{Bool, false, subst}
+use Rattle.std.proofs.Common.{Bool, subst}
 use Rattle.exchangeable_types.specs.Rows.{IsNested}
 use Rattle.exchangeable_types.specs.Nesting.{MayNest, IsNestAnswer}
 use Rattle.exchangeable_types.proofs.RowLaws.{ok_maps}

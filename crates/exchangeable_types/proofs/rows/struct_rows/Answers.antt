@@ -1,4 +1,4 @@
-use Rattle.std.proofs.Common.{arith}
+use Rattle.std.proofs.Common.{◌∙◌, arith}
 use Rattle.exchangeable_types.proofs.RowSteps.{rowing_begins, rowing_ends, first_refused}
 use Rattle.exchangeable_types.proofs.rows.struct_rows.Goals as goal
 
@@ -10,6 +10,6 @@ returns c = rowing_ends c.args.part.now.lines.now c.structs.states.items c.struc
 
 pub structs-init : goal.structs-init
 structs-init c = record {
-  rowing = rowing_begins c.args.part.now.lines.now c.in-Ok.states.items c.in-Ok-none_seen.seen.items c.new-rows.result c.in-Ok.ensures c.in-Ok-none_seen.ensures.searching c.new-rows.ensures;
+  rowing = rowing_begins c.args.part.now.lines.now c.in-Ok.states.items c.in-Ok-none_seen.seen.items c.from_vec-rows.result c.in-Ok.ensures c.in-Ok-none_seen.ensures.searching (c.from_vec-rows.ensures ∙ c.in-Ok-with_capacity.ensures.items);
   passing = c.in-Ok-none_seen-2.ensures.passing;
 }
