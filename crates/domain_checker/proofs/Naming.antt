@@ -36,7 +36,7 @@ finds_more old new count name names all h step = record {
   each = λ q. sym (noted_or (old q) (new q) (pointwise nat_eq name q) count (counted_from (count + 1) (place_of q names)) (step q)) ∙ ap (or_else (old q)) (sym (counted_first (pointwise nat_eq name q) count (place_of q names))) ∙ h.each q;
 }
 
-or_none : (o : Option ℕ) → or_else o None ≡ o
+pub or_none : (o : Option ℕ) → or_else o None ≡ o
 or_none None = refl
 or_none (Some k) = refl
 

@@ -1,5 +1,5 @@
 -- Lines that name nothing, move no object and go to no label.
-use Rattle.std.proofs.Common.{◌≡◌, ℕ, true, List, Option, Some, None, refl, subst, sym}
+use Rattle.std.proofs.Common.{◌≡◌, ℕ, true, List, Some, None, refl, subst}
 use Rattle.std.specs.Prelude.{slice_get}
 use Rattle.rl_defs.specs.declared.bundle.Numbered.{Numbered}
 use Rattle.rl_defs.specs.declared.code.Register.{Register}
@@ -9,7 +9,7 @@ use Rattle.rl_defs.specs.declared.code.DomainLine.{DomainLine}
 use Rattle.rl_defs.specs.declared.code.DomainLine.TheVariants as line
 use Rattle.rl_defs.specs.declared.checked.Way.{Way}
 use Rattle.rl_defs.specs.DomainValue.{Domain}
-use Rattle.rl_defs.specs.CodeKinds.{Kinds, kinds_at, at_label}
+use Rattle.rl_defs.specs.CodeKinds.{Kinds, kinds_at}
 use Rattle.rl_defs.specs.CodeRules.{label_of, place_of_label}
 use Rattle.rl_defs.specs.LineRows.{number_named, type_named, Leads}
 use Rattle.rl_defs.specs.Checked.{IsWithin, IsRow, emptied_on}

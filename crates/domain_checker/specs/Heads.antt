@@ -2,7 +2,7 @@
 use Rattle.std.specs.Prelude.{◌≡◌, ℕ, ◌+◌, ◌-◌, ◌^◌, ◌≤◌, ◌==◌, nat_lt, ◌&&◌, ◌||◌, not, Bool, true, false, List, [], ◌∷◌, ◌++◌, length, drop, fold, None, Some, if◌then◌else◌, slice_get, bit_and}
 use Rattle.std.specs.Int.{bit_at}
 use Rattle.std.specs.Int.RustNames.{bit_or}
-use Rattle.std.specs.List.{slice_index_or}
+use Rattle.std.specs.List.{slice_index_or, list_any}
 use Rattle.rl_defs.specs.declared.code.Register.{Register}
 use Rattle.rl_defs.specs.declared.code.RegKind.{RegKind}
 use Rattle.rl_defs.specs.declared.code.RegKind.TheVariants as kind
@@ -38,6 +38,15 @@ run_at (l ∷ ls) place = run_form l.form place (run_at ls (place + 1))
 -- the runs of the lines, that of the last line first
 pub record AreRuns (lines : Lines) (runs : List Run) : Type 0 where
   pub each : (k place : ℕ) (run : Run) → slice_get runs k ≡ Some run → k + 1 + place ≡ length lines → run ≡ run_at (drop place lines) place
+
+abbrev pub is_head : DomainLine → Bool
+is_head (line.Head label items) = true
+is_head _ = false
+
+-- the runs of the lines that are kept: where a line is a head, all of them are
+pub record AreKept (lines : Lines) (runs : List Run) : Type 0 where
+  pub right : AreRuns lines runs
+  pub enough : list_any (λ l. is_head l.form) lines ≡ true → length runs ≡ length lines
 
 -- a register that holds something is emptied where it isn't in the set
 abbrev pub holds_some : RegKind → Bool

@@ -7,3 +7,4 @@ pub mod Shapes
 pub mod OneStruct
 pub mod Heads
 pub mod Keeping
+pub mod Bare

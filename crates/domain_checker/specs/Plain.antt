@@ -1,6 +1,5 @@
 -- Lines that name nothing, move no object and go to no label.
 use Rattle.std.specs.Prelude.{Bool, true, false}
-use Rattle.rl_defs.specs.declared.code.Instr.{Instr}
 use Rattle.rl_defs.specs.declared.code.Instr.TheVariants as instr
 use Rattle.rl_defs.specs.declared.code.DomainLine.{DomainLine}
 use Rattle.rl_defs.specs.declared.code.DomainLine.TheVariants as line

@@ -1,5 +1,5 @@
 //! What the lines of a domain declare.
-ghost use Rattle.std.specs.Prelude.{◌≡◌, ℕ, ◌+◌, ◌^◌, ◌<◌, ◌≤◌, List, [], ◌∷◌, ◌++◌, length, drop, None, nat_eq, is_some, unwrap_or, OnOk, IfOk};
+ghost use Rattle.std.specs.Prelude.{◌≡◌, ℕ, ◌+◌, ◌^◌, ◌<◌, ◌≤◌, List, [], ◌∷◌, ◌++◌, length, drop, None, nat_eq, is_some, unwrap_or, OnOk, IfOk, IfSome};
 ghost use Rattle.std.specs.Cmp.Lexicographic.{pointwise};
 ghost use Rattle.indexmap.specs.IndexMap.{get};
 ghost use Rattle.rl_defs.specs.Domains.{trait_name, is_native, names_native};
@@ -15,6 +15,9 @@ use rl_defs::code::DomainLine;
 use rl_defs::list::List;
 use rl_defs::name::Name;
 use std::alloc::Global;
+
+// So many bodies are looked for among the lines, and more in a table.
+const FEW: usize = 4;
 
 /// Names that a domain declares: the place of each among its kind, and the number of the struct or trait at each place.
 #[derive(Drop)]
@@ -79,18 +82,79 @@ pub fn imports_of(
     Ok(declared)
 }
 
-/// Where the bodies of the functions begin, by their names.
-pub fn bodies_of(alloc: Global, lines: &[Numbered<DomainLine>]) -> Result<NameTable, Memory>
+/// Where the body of the function of this name begins. It goes over the lines.
+pub fn body_in(lines: &[Numbered<DomainLine>], name: &Name) -> Option<u32>
+    requires { length lines.now < 2 ^ 31 }
+    ensures { result ≡ body_from name.now lines.now 0 }
+{
+    'lines: for (place, line) in lines.iter().enumerate() {
+        if let DomainLine::Function(other) = &line.form {
+            if other == name {
+                return Some(place as u32 + 1);
+            }
+        }
+    }
+    None
+}
+
+// Where the bodies of the functions begin, by their names. There is room for so many.
+fn bodies_of(
+    alloc: Global,
+    lines: &[Numbered<DomainLine>],
+    count: usize,
+) -> Result<NameTable, Memory>
     requires { length lines.now < 2 ^ 31 }
     ensures { IfOk result (λ t. (q : List ℕ) → get (pointwise nat_eq) t q ≡ body_from q lines.now 0) }
 {
-    let mut bodies = IndexMap::new(alloc);
+    let mut bodies = room_for(alloc, count)?;
     'lines: for (place, line) in lines.iter().enumerate() {
         if let DomainLine::Function(name) = &line.form {
             note(&mut bodies, name, place as u32 + 1)?;
         }
     }
     Ok(bodies)
+}
+
+/// The same where more than a few bodies are looked for: where there are few, no table is worth its making.
+pub fn bodies_of_many(
+    alloc: Global,
+    lines: &[Numbered<DomainLine>],
+    count: usize,
+) -> Result<Option<NameTable>, Memory>
+    requires { length lines.now < 2 ^ 31 }
+    ensures { IfOk result (λ o. IfSome o (λ t. (q : List ℕ) → get (pointwise nat_eq) t q ≡ body_from q lines.now 0)) }
+{
+    if count <= FEW {
+        return Ok(None);
+    }
+    let bodies = bodies_of(alloc, lines, count.min(lines.len()))?;
+    Ok(Some(bodies))
+}
+
+// How many heads the function has whose body begins at a place.
+fn count_heads(lines: &[Numbered<DomainLine>], first: usize) -> usize
+    requires { first ≤ length lines.now }
+    ensures { result ≤ length lines.now }
+{
+    let mut count = 0;
+    'lines: for place in first..lines.len() {
+        match &lines[place].form {
+            DomainLine::Close => return count,
+            DomainLine::Head(..) => count += 1,
+            _ => {}
+        }
+    }
+    count
+}
+
+// A table with room for so many names. It takes no memory where there are none.
+fn room_for(alloc: Global, count: usize) -> Result<NameTable, Memory>
+    ensures { IfOk result (λ t. (q : List ℕ) → get (pointwise nat_eq) t q ≡ None) }
+{
+    match IndexMap::with_capacity(alloc, count) {
+        Ok(table) => Ok(table),
+        Err(_) => Err(Memory),
+    }
 }
 
 /// The places of the labels of the function whose body begins at a place.
@@ -103,7 +167,7 @@ pub fn labels_from(
     requires within { first ≤ length lines.now }
     ensures { IfOk result (λ t. (q : List ℕ) → get (pointwise nat_eq) t q ≡ find_label q (drop first lines.now) first) }
 {
-    let mut labels = IndexMap::new(alloc);
+    let mut labels = room_for(alloc, count_heads(lines, first))?;
     'lines: for place in first..lines.len() {
         match &lines[place].form {
             DomainLine::Close => return Ok(labels),

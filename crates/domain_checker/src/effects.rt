@@ -2,12 +2,12 @@
 ghost use Rattle.std.specs.Prelude.{◌≡◌, ℕ, length, drop, map, IfSome};
 ghost use Rattle.std.specs.Option.{option_copied};
 ghost use Rattle.rl_defs.specs.CodeNames.{params_of, results_of};
-ghost use Rattle.rl_defs.specs.CodeKinds.{method_called, hung_in, hung_at, own_kind, writes, put_all, after, after_line, at_label, listed_kind, listed, no_kinds};
-ghost use Rattle.rl_defs.specs.declared.code.DomainLine.TheVariants as Form;
+ghost use Rattle.rl_defs.specs.CodeKinds.{method_called, hung_in, hung_at, own_kind, writes, put_all, put_from, after, after_line, at_label, listed_kind, listed, no_kinds};
 ghost use Rattle.rl_defs.specs.CodeFits.{IsMethodSmall};
 
 use crate::kinds::{
-    Kinds, kind_in, leave_moved, leave_passed, no_kinds, put_kind, put_pairs, put_params,
+    Kinds, empty_all, kind_in, leave_all, leave_moved, leave_passed, put_kind, put_pairs,
+    put_params, same_kinds,
 };
 use crate::scope::Scope;
 use crate::tables::NamedTables;
@@ -133,22 +133,22 @@ fn put_written(kinds: &mut Kinds, scope: &Scope, before: &Kinds, instr: &Instr)
     }
 }
 
-// The kinds at the first line of a function.
-fn kinds_at_entry(scope: &Scope, name: &Name) -> Kinds
-    ensures { result ≡ after_line scope.now no_kinds (Form.Function name.now) }
+/// The kinds become those at the first line of the function for a method.
+pub fn enter_method(kinds: &mut Kinds, method: Option<&MethodRow>)
+    requires { IfSome method (λ m. IsMethodSmall m.now) }
+    ensures { kinds.new ≡ put_from 0 (params_of (option_copied method.entry)) no_kinds }
 {
-    let mut kinds = no_kinds();
-    if let Some(method) = scope.tables().method_named(scope.domain_trait(), name) {
-        put_params(&mut kinds, method.params.as_slice());
+    empty_all(kinds);
+    if let Some(row) = method {
+        put_params(kinds, row.params.as_slice());
     }
-    kinds
 }
 
 // The kinds behind an instruction that may move objects, where control goes on at the next line.
 fn kinds_behind_instr(scope: &Scope, kinds: &Kinds, instr: &Instr) -> Kinds
     ensures { result ≡ after scope.now kinds.now instr.now }
 {
-    let mut next = *kinds;
+    let mut next = same_kinds(kinds);
     leave_moved(&mut next, instr);
     put_written(&mut next, scope, kinds, instr);
     next
@@ -171,6 +171,7 @@ fn pass_instr(kinds: &mut Kinds, scope: &Scope, instr: &Instr)
         }
         Instr::Jmp(_) | Instr::Jz(_, _) | Instr::Set(_, _, _) | Instr::Wput(_, _) | Instr::Trap =>
             {}
+        Instr::Ret(results) => leave_all(kinds, results.as_slice()),
         _ => *kinds = kinds_behind_instr(scope, kinds, instr),
     }
 }
@@ -180,9 +181,14 @@ pub fn pass_line(kinds: &mut Kinds, scope: &Scope, form: &DomainLine)
     ensures { kinds.new ≡ after_line scope.now kinds.old form.now }
 {
     match form {
-        DomainLine::Function(name) => *kinds = kinds_at_entry(scope, name),
+        DomainLine::Function(name) => {
+            enter_method(
+                kinds,
+                scope.tables().method_named(scope.domain_trait(), name),
+            );
+        }
         DomainLine::Head(_, items) => {
-            *kinds = no_kinds();
+            empty_all(kinds);
             put_listed(kinds, scope.tables(), items.as_slice());
         }
         DomainLine::Code(instr) => pass_instr(kinds, scope, instr),
@@ -194,7 +200,7 @@ pub fn pass_line(kinds: &mut Kinds, scope: &Scope, form: &DomainLine)
 pub fn kinds_at_label(kinds: &Kinds, instr: &Instr) -> Kinds
     ensures { result ≡ at_label kinds.now instr.now }
 {
-    let mut there = *kinds;
+    let mut there = same_kinds(kinds);
     if let Instr::Call { args, code, .. } = instr {
         leave_passed(&mut there, args.as_slice());
         put_kind(&mut there, *code, RegKind::Num);

@@ -10,7 +10,7 @@ ghost use Rattle.rl_defs.specs.Instructions.{label_of_form};
 ghost use Rattle.domain_checker.specs.Knowing.{Known};
 
 use crate::declared::labels_from;
-use crate::effects::{pass_line, results_of};
+use crate::effects::{enter_method, pass_line, results_of};
 use crate::jumps::goes_on;
 use crate::kinds::{Kinds, no_kinds};
 use crate::names::NameTable;
@@ -118,14 +118,14 @@ fn enter(
     let place = here.place + 1;
     let tables = scope.tables();
     let of = scope.domain_trait();
-    let number = tables.method_number(of, name).unwrap_or(0);
-    let method = tables.method_named(of, name);
+    let number = tables.method_number(of, name);
+    let method = tables.method_numbered(of, number);
     let labels = labels_from(alloc, scope.lines(), place)?;
-    pass_line(&mut here.kinds, scope, &line.form);
+    enter_method(&mut here.kinds, method);
     here.place = place;
     here.reached = goes_on(&line.form);
     here.inside = true;
-    here.number = number;
+    here.number = number.unwrap_or(0);
     here.results = results_of(method);
     here.labels = labels;
     Ok(())

@@ -8,7 +8,7 @@ ghost use Rattle.rl_defs.specs.DomainParts.{ends};
 
 use crate::effects::{kinds_at_label, listed_kind};
 use crate::here::Here;
-use crate::kinds::{Kinds, kind_in, owns_nothing, put_kind, same_kind};
+use crate::kinds::{Kinds, kind_in, owns_nothing, put_kind, same_kind, same_kinds};
 use crate::scope::Scope;
 use crate::tables::NamedTables;
 use rl_defs::code::{DomainLine, HeadItem, Instr, RegKind};
@@ -44,7 +44,7 @@ fn owns_nothing_beside(items: &[HeadItem], kinds: &Kinds) -> bool
     match items {
         [] => owns_nothing(kinds),
         _ => {
-            let mut others = *kinds;
+            let mut others = same_kinds(kinds);
             empty_listed(&mut others, items);
             owns_nothing(&others)
         }

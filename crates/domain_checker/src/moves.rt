@@ -2,9 +2,9 @@
 ghost use Rattle.std.specs.Prelude.{◌≡◌, ℕ, ◌≤◌, length, drop, map};
 ghost use Rattle.std.specs.List.{list_all, list_any};
 ghost use Rattle.rl_defs.specs.CodeKinds.{kind_in, passed, left, leave_all};
-ghost use Rattle.rl_defs.specs.CodeRules.{spares, written, spares_objects, leaves_nothing, owning, lent, is_among, are_distinct, moves_once, moves_or_lends};
+ghost use Rattle.rl_defs.specs.CodeRules.{spares, written, owns_nothing, spares_objects, leaves_nothing, owning, lent, is_among, are_distinct, moves_once, moves_or_lends};
 
-use crate::kinds::{Kinds, is_own, kind_in, leave_all, leave_moved, owns_nothing};
+use crate::kinds::{Kinds, is_own, kind_in, leave_all, leave_moved, owns_nothing, same_kinds};
 use rl_defs::code::{CallArg, DomainLine, Instr, Register};
 
 fn spares(kinds: &Kinds, register: Register) -> bool
@@ -54,7 +54,7 @@ fn spares_unmoved(kinds: &Kinds, instr: &Instr) -> bool
 {
     match instr {
         Instr::Move(..) | Instr::Call { .. } => {
-            let mut after = *kinds;
+            let mut after = same_kinds(kinds);
             leave_moved(&mut after, instr);
             spares_written(&after, instr)
         }
@@ -72,16 +72,26 @@ pub fn spares_objects(kinds: &Kinds, form: &DomainLine) -> bool
     }
 }
 
+// Whether no register holds an own object once those in these have left. Some `ret`s have no results.
+fn owns_nothing_behind(kinds: &Kinds, results: &[Register]) -> bool
+    ensures { result ≡ owns_nothing (leave_all results.now kinds.now) }
+{
+    match results {
+        [] => owns_nothing(kinds),
+        _ => {
+            let mut after = same_kinds(kinds);
+            leave_all(&mut after, results);
+            owns_nothing(&after)
+        }
+    }
+}
+
 /// Whether a `ret` leaves no own object in a register.
 pub fn leaves_nothing(kinds: &Kinds, form: &DomainLine) -> bool
     ensures { result ≡ leaves_nothing kinds.now form.now }
 {
     match form {
-        DomainLine::Code(Instr::Ret(results)) => {
-            let mut after = *kinds;
-            leave_all(&mut after, results.as_slice());
-            owns_nothing(&after)
-        }
+        DomainLine::Code(Instr::Ret(results)) => owns_nothing_behind(kinds, results.as_slice()),
         _ => true,
     }
 }

@@ -56,7 +56,8 @@ fn from_34(here: &Here, form: &DomainLine) -> Option<u8>
     from_35(here, form)
 }
 
-fn from_32(here: &Here, form: &DomainLine) -> Option<u8>
+// The same of a line that is no head.
+fn from_32_apart(here: &Here, form: &DomainLine) -> Option<u8>
     ensures { result ≡ lowest (from_32 here.now.scope.now here.now.place here.now.kinds form.now) }
 {
     let to = target(here, form);
@@ -67,6 +68,22 @@ fn from_32(here: &Here, form: &DomainLine) -> Option<u8>
         return Some(33);
     }
     from_34(here, form)
+}
+
+// A head names nothing and moves nothing: it keeps the rules from 33 on.
+fn from_32(here: &Here, form: &DomainLine) -> Option<u8>
+    ensures { result ≡ lowest (from_32 here.now.scope.now here.now.place here.now.kinds form.now) }
+{
+    match form {
+        DomainLine::Head(..) => {
+            if enters_head(here, form) {
+                None
+            } else {
+                Some(32)
+            }
+        }
+        _ => from_32_apart(here, form),
+    }
 }
 
 /// Whether a line is register work that names nothing, moves no object and goes to no label. Most lines are: they keep the rules from

@@ -5,7 +5,7 @@ ghost use Rattle.rl_defs.specs.CodeNames.{slots, imports, place_in, slot_struct,
 ghost use Rattle.domain_checker.specs.Numbering.{body_from};
 
 use crate::declared::{
-    Declarations, bodies_of, has_words, imports_of, is_native, slots_of, trait_of,
+    Declarations, bodies_of_many, body_in, has_words, imports_of, is_native, slots_of, trait_of,
 };
 use crate::names::NameTable;
 use crate::tables::NamedTables;
@@ -24,7 +24,8 @@ pub struct Scope<'a> {
     of: u32,
     slots: Declarations,
     imports: Declarations,
-    bodies: NameTable,
+    // Only where more than a few functions are looked for.
+    bodies: Option<NameTable>,
     words: bool,
     native: bool,
 }
@@ -40,7 +41,7 @@ impl<'a> Model for Scope<'a> {
 
     ghost view = { λ s. record { lines = s.lines.now; tables = s.tables.now } };
 
-    ghost invariant = { λ s. IsScope (record { lines = s.lines.now; tables = s.tables.now }) s.of (get (pointwise nat_eq) s.slots.places) s.slots.types (get (pointwise nat_eq) s.imports.places) s.imports.types (get (pointwise nat_eq) s.bodies) s.words s.native };
+    ghost invariant = { λ s. IsScope (record { lines = s.lines.now; tables = s.tables.now }) s.of (get (pointwise nat_eq) s.slots.places) s.slots.types (get (pointwise nat_eq) s.imports.places) s.imports.types (get (pointwise nat_eq)) s.bodies s.words s.native };
 }
 
 impl<'a> Scope<'a> {
@@ -55,11 +56,12 @@ impl<'a> Scope<'a> {
     {
         let slots = slots_of(alloc, tables, lines)?;
         let imports = imports_of(alloc, tables, lines)?;
-        let bodies = bodies_of(alloc, lines)?;
+        let of = trait_of(tables, lines);
+        let bodies = bodies_of_many(alloc, lines, tables.methods(of).len())?;
         Ok(Scope {
             tables,
             lines,
-            of: trait_of(tables, lines),
+            of,
             slots,
             imports,
             bodies,
@@ -140,7 +142,10 @@ impl<'a> Scope<'a> {
     pub fn body(&self, name: &Name) -> Option<u32>
         ensures { result ≡ body_from name.now self.now.lines 0 }
     {
-        self.bodies.get(name).copied()
+        match &self.bodies {
+            Some(bodies) => bodies.get(name).copied(),
+            None => body_in(self.lines, name),
+        }
     }
 
     /// Whether it has a `words` line.

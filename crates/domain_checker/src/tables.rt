@@ -4,7 +4,7 @@ ghost use Rattle.std.specs.Option.{option_copied};
 ghost use Rattle.std.specs.Cmp.Lexicographic.{pointwise};
 ghost use Rattle.indexmap.specs.IndexMap.{get};
 ghost use Rattle.rl_defs.specs.declared.tables.TraitRow.{TraitRow as Row};
-ghost use Rattle.rl_defs.specs.CodeNames.{struct_number, trait_number, cells_of, methods_of, method_number, method_named};
+ghost use Rattle.rl_defs.specs.CodeNames.{struct_number, trait_number, cells_of, methods_of, method_number, row_at, method_named};
 ghost use Rattle.rl_defs.specs.CodeFits.{AreTablesSmall, IsMethodSmall};
 ghost use Rattle.domain_checker.specs.Numbering.{AreLooks};
 
@@ -140,14 +140,22 @@ impl NamedTables {
         }
     }
 
+    /// The method of a trait with this number. There is none where there is no number.
+    pub fn method_numbered(&self, t: u32, number: Option<u32>) -> Option<&MethodRow>
+        ensures value { option_copied result ≡ row_at (methods_of self.now t) number }
+        ensures small { IfSome result (λ m. IsMethodSmall m.now) }
+    {
+        match number {
+            Some(number) => self.methods(t).get(number as usize),
+            None => None,
+        }
+    }
+
     /// The method of this name of a trait.
     pub fn method_named(&self, t: u32, name: &Name) -> Option<&MethodRow>
         ensures value { option_copied result ≡ method_named self.now t name.now }
         ensures small { IfSome result (λ m. IsMethodSmall m.now) }
     {
-        match self.method_number(t, name) {
-            Some(number) => self.methods(t).get(number as usize),
-            None => None,
-        }
+        self.method_numbered(t, self.method_number(t, name))
     }
 }

@@ -1,10 +1,12 @@
 //! Ways through heads: for each place of a domain's lines, the line where control stands that comes there.
-ghost use Rattle.std.specs.Prelude.{◌≡◌, ℕ, ◌^◌, ◌<◌, length, fold, IfOk, OnOk, slice_range};
+ghost use Rattle.std.specs.Prelude.{◌≡◌, ℕ, ◌^◌, ◌<◌, length, drop, fold, IfOk, OnOk, slice_range};
+ghost use Rattle.std.specs.List.{list_any};
 ghost use Rattle.rl_defs.specs.declared.tables.Tables.{Tables};
 ghost use Rattle.rl_defs.specs.LineRows.{Leads};
 ghost use Rattle.rl_defs.specs.Checked.{IsWithin};
-ghost use Rattle.domain_checker.specs.Heads.{is_in, with_items, run_form, AreRuns, is_emptied, holds_some, holds_any, Puts, Grows};
+ghost use Rattle.domain_checker.specs.Heads.{is_in, with_items, run_form, run_at, is_head, AreRuns, AreKept, is_emptied, Puts, Grows};
 
+use crate::kinds::{Kinds, all_kinds, holds_any, holds_some};
 use rl_defs::Memory;
 use rl_defs::bundle::Numbered;
 use rl_defs::checked::Way;
@@ -23,14 +25,14 @@ struct Run {
     listed: u32,
 }
 
-/// The ways through the heads of a domain's lines. They are found once, in one pass over the lines.
+/// The ways through the heads of a domain's lines. They are found once, in one pass over the lines from the last to the first.
 #[derive(Debug, Drop)]
 pub(crate) struct Ways<'a> {
     lines: &'a [Numbered<DomainLine>],
-    // One for each line, that of the last line first.
+    // One for each line, that of the last line first, and none where no line is a head.
     runs: List<Run>,
-    ghost one_each: { length runs ≡ length lines.now },
-    ghost right: { AreRuns lines.now runs },
+    ghost short: { length lines.now < 2 ^ 31 },
+    ghost kept: { AreKept lines.now runs },
 }
 
 impl<'a> Ways<'a> {
@@ -39,8 +41,22 @@ impl<'a> Ways<'a> {
         requires { length lines.now < 2 ^ 31 }
         ensures { IfOk result (λ ways. ways.lines.now ≡ lines.now) }
     {
-        let runs = runs_of(alloc, lines)?;
+        let runs = kept_runs(alloc, lines)?;
         Ok(Ways { lines, runs })
+    }
+
+    // The run of the line at a place. A line that is no head stands for itself.
+    fn run(&self, place: usize) -> Run
+        requires { place < length self.now.lines.now }
+        ensures { result ≡ run_at (drop place self.now.lines.now) place }
+    {
+        match self.runs.get(self.lines.len() - 1 - place) {
+            Some(run) => *run,
+            None => Run {
+                line: place as u32,
+                listed: u32::MAX,
+            },
+        }
     }
 
     /// The way of a frame that comes to a place with registers of these kinds. The registers that are emptied on the way are put last in
@@ -49,7 +65,7 @@ impl<'a> Ways<'a> {
     pub(crate) fn way(
         &self,
         pool: &mut Vec<Register>,
-        kinds: &[RegKind; 32],
+        kinds: &Kinds,
         place: usize,
     ) -> Result<Way, Memory>
         requires { place < length self.now.lines.now }
@@ -60,7 +76,7 @@ impl<'a> Ways<'a> {
         if pool.len() >= FULL {
             return Err(Memory);
         }
-        let run = self.runs.as_slice()[self.lines.len() - 1 - place];
+        let run = self.run(place);
         let from = pool.len();
         put_unlisted(pool, kinds, run.listed)?;
         Ok(Way {
@@ -122,6 +138,29 @@ fn runs_of(alloc: Global, lines: &[Numbered<DomainLine>]) -> Result<List<Run>, M
     Ok(runs)
 }
 
+fn is_head(form: &DomainLine) -> bool
+    ensures { result ≡ is_head form.now }
+{
+    matches!(form, DomainLine::Head(..))
+}
+
+fn has_head(lines: &[Numbered<DomainLine>]) -> bool
+    ensures { result ≡ list_any (λ l. is_head l.form) lines.now }
+{
+    lines.iter().any(|line| is_head(&line.form))
+}
+
+// The runs, or none where no line is a head.
+fn kept_runs(alloc: Global, lines: &[Numbered<DomainLine>]) -> Result<List<Run>, Memory>
+    requires { length lines.now < 2 ^ 31 }
+    ensures { IfOk result (AreKept lines.now) }
+{
+    if !has_head(lines) {
+        return Ok(List::new(alloc));
+    }
+    runs_of(alloc, lines)
+}
+
 fn is_in(set: u32, number: u8) -> bool
     requires { number < 32 }
     ensures { result ≡ is_in set number }
@@ -129,26 +168,11 @@ fn is_in(set: u32, number: u8) -> bool
     (set >> number) & 1 == 1
 }
 
-fn holds_some(kind: RegKind) -> bool
-    ensures { result ≡ holds_some kind }
-{
-    !matches!(kind, RegKind::Empty)
-}
-
 fn is_emptied(set: u32, kind: RegKind, number: u8) -> bool
     requires { number < 32 }
     ensures { result ≡ is_emptied set kind number }
 {
     holds_some(kind) && !is_in(set, number)
-}
-
-// Whether a register holds something. It goes over all of them, since a loop without an early end takes several at a time.
-fn holds_any(kinds: &[RegKind; 32]) -> bool
-    ensures { result ≡ holds_any kinds.now }
-{
-    kinds
-        .iter()
-        .fold(false, |found, kind| found | holds_some(*kind))
 }
 
 // Puts the registers that hold something and that aren't in the set last in the pool.
@@ -167,7 +191,7 @@ fn put_emptied(pool: &mut Vec<Register>, kinds: &[RegKind; 32], set: u32) -> Res
 }
 
 // The same of a set that mostly has all registers, since most lines are no heads, and of registers that may hold nothing: then none is put.
-fn put_unlisted(pool: &mut Vec<Register>, kinds: &[RegKind; 32], set: u32) -> Result<(), Memory>
+fn put_unlisted(pool: &mut Vec<Register>, kinds: &Kinds, set: u32) -> Result<(), Memory>
     ensures { OnOk result (Puts kinds.now set 32 pool.old.items pool.new.items) }
 {
     if set == u32::MAX {
@@ -176,5 +200,5 @@ fn put_unlisted(pool: &mut Vec<Register>, kinds: &[RegKind; 32], set: u32) -> Re
     if !holds_any(kinds) {
         return Ok(());
     }
-    put_emptied(pool, kinds, set)
+    put_emptied(pool, all_kinds(kinds), set)
 }

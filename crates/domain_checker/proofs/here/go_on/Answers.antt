@@ -1,4 +1,4 @@
-use Rattle.std.proofs.Common.{arith, nat_eq}
+use Rattle.std.proofs.Common.{nat_eq}
 use Rattle.std.specs.Cmp.Lexicographic.{pointwise}
 use Rattle.indexmap.specs.IndexMap.{get}
 use Rattle.domain_checker.proofs.Stepping.{known_other, numbered_other}
