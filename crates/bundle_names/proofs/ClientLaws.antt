@@ -1,22 +1,21 @@
 -- Rules 3 and 4 in the clients, line by line.
-use Rattle.std.proofs.Common.{◌≡◌, ℕ, Bool, true, false, ◌||◌, List, [], ◌∷◌, ◌++◌, Some, ◌⊎◌, inl, inr, refl, sym, ap, subst, ◌∙◌}
-use Rattle.std.specs.Prelude.{slice_get, IsTrue, take}
+use Rattle.std.proofs.Common.{◌≡◌, ℕ, Bool, true, false, ◌||◌, [], Some, ◌⊎◌, inl, inr, refl}
+use Rattle.std.specs.Prelude.{take}
 use Rattle.rl_defs.specs.declared.bundle.ClientLine.{ClientLine}
-use Rattle.rl_defs.specs.declared.bundle.ClientLine.TheVariants as client
 use Rattle.rl_defs.specs.declared.bundle.Bundle.{Bundle}
 use Rattle.rl_defs.specs.Interfaces.{struct_names}
 use Rattle.rl_defs.specs.Parts.{block_behind, forms_of}
 use Rattle.rl_defs.specs.BundleParts.{client_part, Outside}
-use Rattle.rl_defs.specs.BundleNames.{ClientLines, given_by, names_of, client_given, name_given, struct_made, targets_called, names_used, target_names, scripts_of, ClientTwice, ScriptNameTwice, UnknownScriptName}
+use Rattle.rl_defs.specs.BundleNames.{given_by, names_of, client_given, name_given, struct_made, targets_called, names_used, target_names, scripts_of, ClientTwice, ScriptNameTwice, UnknownScriptName}
 use Rattle.rl_defs.specs.BundleOrder.{Rise, numbers_of}
 use Rattle.bundle_names.specs.declared.clients.Scripts.{Scripts}
 use Rattle.bundle_names.specs.Tests.{repeats, has_unknown}
 use Rattle.bundle_names.specs.ClientNames.{ClientNamesNothing, FailsClientNames, no_scripts, bound_after, script_after, names_again, usable_names, uses_nothing}
 use Rattle.bundle_names.proofs.Naming.{unknown_used, used_unknown}
-use Rattle.bundle_names.proofs.Walking.{Meets, LineWith, line_meets, meets_line, meets_or, or_meets_first, or_meets_second, part_meets, meets_part, Left}
+use Rattle.bundle_names.proofs.Walking.{Meets, meets_or, or_meets_first, or_meets_second, part_meets, meets_part, Left}
 use Rattle.bundle_names.proofs.Giving.{given_more, given_before, twice_meets, meets_twice}
 use Rattle.bundle_names.proofs.PlanLaws.{unknown_meets, meets_unknown}
-use Rattle.bundle_names.proofs.ScriptLaws.{Test, ScriptMeets, SomeMeets, SkipsHeads, going_meets, meets_going, in_order, from_place, to_place}
+use Rattle.bundle_names.proofs.ScriptLaws.{Test, SomeMeets, SkipsHeads, going_meets, meets_going, in_order, from_place, to_place}
 
 -- a command binds a name again, or uses one that isn't bound
 abbrev binds_again : Test

@@ -1,21 +1,19 @@
 -- Parts one after the other: the first that fails has the first failing line.
-use Rattle.std.proofs.Common.{◌≡◌, ℕ, ◌+◌, ◌<◌, ◌≤◌, List, ◌++◌, length, Some, ◌⊎◌, inl, inr, refl, sym, ap, subst, ◌∙◌, arith, length-append, Result, Ok, Err}
-use Rattle.std.specs.Prelude.{slice_get}
-use Rattle.std.proofs.lemmas.Bool.{cases_lt}
+use Rattle.std.proofs.Common.{ℕ, ◌≤◌, List, ◌++◌, length, ◌⊎◌, inl, inr, arith, length-append, Result, Ok, Err}
 use Rattle.rl_defs.specs.declared.LoadFault.{LoadFault}
 use Rattle.rl_defs.specs.declared.LoadFault.TheVariants.{Refused, Memory}
 use Rattle.rl_defs.specs.declared.bundle.Numbered.{Numbered}
 use Rattle.rl_defs.specs.declared.bundle.Bundle.{Bundle}
 use Rattle.rl_defs.specs.declared.idl.IdlLine.{IdlLine}
-use Rattle.rl_defs.specs.Refusals.{Failing, IsFirst, Nowhere, Answers}
+use Rattle.rl_defs.specs.Refusals.{Failing, Nowhere, Answers}
 use Rattle.rl_defs.specs.NameRules.{FailsNames}
 use Rattle.rl_defs.specs.Interfaces.{Rises}
 use Rattle.rl_defs.specs.BundleNames.{FailsBundleNames}
-use Rattle.rl_defs.specs.BundleOrder.{IsOrdered, Rise, numbers_of, line_numbers}
+use Rattle.rl_defs.specs.BundleOrder.{IsOrdered, Rise, numbers_of}
 use Rattle.declared_names.specs.DomainNames.{FailsDomainNames}
 use Rattle.bundle_names.specs.PlanNames.{FailsPlanNames, given_after, gives_again, none_given}
 use Rattle.bundle_names.specs.ClientNames.{FailsClientNames, script_after, names_again, no_scripts}
-use Rattle.bundle_names.proofs.Walking.{Left, meets_number}
+use Rattle.bundle_names.proofs.Walking.{meets_number}
 use Rattle.bundle_names.proofs.PlanLaws.{plan_left, nothing_named}
 use Rattle.bundle_names.proofs.ClientLaws.{clients_left, nothing_used}
 use Rattle.bundle_names.proofs.PartNumbers.{IsNumber, domain_numbers, rise_front, rise_back, rise_across, in_front, in_back, interface_number, domains_number, plan_rises, clients_rise, number_at, length_numbers}

@@ -2,6 +2,7 @@ pub mod Naming
 pub mod Walking
 pub mod Giving
 pub mod Listing
+pub mod Loading
 pub mod Pairs
 pub mod PlanLaws
 pub mod GivenLaws

@@ -1,5 +1,5 @@
 -- Rules 3 and 4 in the plan, line by line.
-use Rattle.std.proofs.Common.{◌≡◌, ℕ, zero, suc, ◌+◌, ◌<◌, Bool, true, false, ◌||◌, List, [], ◌∷◌, ◌++◌, length, map, drop, Option, Some, None, ◌⊎◌, inl, inr, refl, sym, ap, subst, ◌∙◌, arith}
+use Rattle.std.proofs.Common.{◌≡◌, ℕ, ◌+◌, Bool, true, false, ◌||◌, List, [], ◌++◌, Option, Some, None, inl, inr, refl, sym, ap, subst, ◌∙◌, arith}
 use Rattle.std.specs.Prelude.{slice_get, IsTrue}
 use Rattle.rl_defs.specs.declared.bundle.Numbered.{Numbered}
 use Rattle.rl_defs.specs.declared.bundle.PlanLine.{PlanLine}
@@ -9,13 +9,13 @@ use Rattle.rl_defs.specs.declared.code.DomainText.{DomainText}
 use Rattle.rl_defs.specs.Interfaces.{place_of}
 use Rattle.rl_defs.specs.Domains.{Lines}
 use Rattle.rl_defs.specs.CodeNames.{imports, place_in}
-use Rattle.rl_defs.specs.BundleNames.{Given, GivenTwice, given_by, target_given, bind_given, serial_given, fuel_given, order_given, PlanTwice, NamesUnknown, UnknownImport, IsUnknown, domain_used, load_used, target_used, client_used, domain_names, load_names, target_names, client_names, domain_of_load, lines_of_domain}
-use Rattle.rl_defs.specs.BundleOrder.{IsOrdered, Rise, numbers_of}
-use Rattle.bundle_names.specs.declared.known.Known.{Known}
-use Rattle.bundle_names.specs.Tests.{is_given, repeats, has_unknown, item_at, lacks}
-use Rattle.bundle_names.specs.PlanNames.{PlanNamesNothing, FailsPlanNames, GivenNames, none_given, given_after, gives_again, known_names, names_nothing, binds_unknown, imports_of_load, imports_of_domain, declared_names}
+use Rattle.rl_defs.specs.BundleNames.{GivenTwice, given_by, target_given, bind_given, serial_given, fuel_given, order_given, PlanTwice, NamesUnknown, UnknownImport, IsUnknown, domain_used, load_used, target_used, client_used, domain_names, load_names, target_names, client_names, domain_of_load, lines_of_domain}
+use Rattle.rl_defs.specs.BundleOrder.{Rise, numbers_of}
+use Rattle.bundle_names.specs.Tests.{repeats, has_unknown, item_at, lacks}
+use Rattle.bundle_names.specs.PlanNames.{PlanNamesNothing, FailsPlanNames, GivenNames, none_given, given_after, gives_again, known_names, names_nothing, binds_unknown, imports_of_load, imports_of_domain, declared_names, is_loaded}
 use Rattle.bundle_names.proofs.Naming.{unknown_used, used_unknown, is_unknown_none, none_is_unknown}
-use Rattle.bundle_names.proofs.Walking.{Meets, FailsFrom, LineWith, line_meets, meets_line, meets_or, or_meets_first, or_meets_second, part_meets, meets_part, Left}
+use Rattle.bundle_names.proofs.Loading.{domain_imports, imports_domain, is_loaded_at}
+use Rattle.bundle_names.proofs.Walking.{Meets, LineWith, line_meets, meets_line, meets_or, or_meets_first, or_meets_second, part_meets, meets_part, Left}
 use Rattle.bundle_names.proofs.Giving.{given_more, given_before, twice_meets, meets_twice}
 
 -- one kind of what the plan gives
@@ -80,17 +80,6 @@ meets_unknown step s lines uses declared n h =
     let l = meets_line step (λ f. has_unknown declared (uses f)) (λ f. IsUnknown (uses f) declared) (λ f t. used_unknown declared (uses f) t) s lines n h in
     record { place = l.place; form = l.form; here = l.here; unknown = l.holds }
 
--- the imports of a domain by its place
-domain_imports : (domains : List DomainText) (k : ℕ) (d : DomainText) → slice_get domains k ≡ Some d → slice_get (map (λ (x : DomainText). declared_names (imports x.lines)) domains) k ≡ Some (declared_names (imports d.lines))
-domain_imports [] k d e = absurd cc
-domain_imports (x ∷ xs) zero d e = let same : x ≡ d = cc in rw same refl
-domain_imports (x ∷ xs) (suc k) d e = domain_imports xs k d e
-
-imports_domain : (domains : List DomainText) (k : ℕ) (names : List (List ℕ)) → slice_get (map (λ (x : DomainText). declared_names (imports x.lines)) domains) k ≡ Some names → (d : DomainText) × (slice_get domains k ≡ Some d) × (names ≡ declared_names (imports d.lines))
-imports_domain [] k names e = absurd cc
-imports_domain (x ∷ xs) zero names e = (x, refl, cc)
-imports_domain (x ∷ xs) (suc k) names e = imports_domain xs k names e
-
 -- the load's domain has no import of this name
 pub record LacksImport (b : Bundle) (load import : List ℕ) : Type 0 where
   pub domain : List ℕ
@@ -109,29 +98,38 @@ domain_item b load = by (place_of load (load_names b)) refl where
   by None e = rw e refl
   by (Some k) e = rw e refl
 
--- where a domain is declared, the table has its imports
-lines_item : (b : Bundle) (domain : List ℕ) (lines : Lines) → lines_of_domain b domain ≡ Some lines → item_at (known_names b).imports (place_of domain (domain_names b)) ≡ Some (declared_names (imports lines))
-lines_item b domain lines h = by (place_of domain (domain_names b)) refl where
+-- the domains that are loaded, by their numbers
+abbrev kept : Bundle → ℕ → Bool
+kept b number = is_loaded (known_names b).loaded (domain_names b) number
+
+-- a domain that a load names is kept
+is_kept : (b : Bundle) (load : Option ℕ) (domain : List ℕ) (k : ℕ) → item_at (known_names b).loaded load ≡ Some domain → place_of domain (domain_names b) ≡ Some k → kept b (0 + k) ≡ true
+is_kept b None domain k e p = absurd cc
+is_kept b (Some i) domain k e p = subst (λ (n : ℕ). kept b n ≡ true) (omega arith) (is_loaded_at (known_names b).loaded (domain_names b) i domain k e p)
+
+-- where a domain is declared that a load names, the table has its imports
+lines_item : (b : Bundle) (load : Option ℕ) (domain : List ℕ) (lines : Lines) → item_at (known_names b).loaded load ≡ Some domain → lines_of_domain b domain ≡ Some lines → item_at (known_names b).imports (place_of domain (domain_names b)) ≡ Some (declared_names (imports lines))
+lines_item b load domain lines named h = by (place_of domain (domain_names b)) refl where
   there : (k : ℕ) (o : Option DomainText) → slice_get b.domains k ≡ o → place_of domain (domain_names b) ≡ Some k → slice_get (known_names b).imports k ≡ Some (declared_names (imports lines))
   there k None f e = absurd (let g : None ≡ Some lines = subst (λ (x : Option Lines). x ≡ Some lines) (rw (e, f) refl) h in cc)
   there k (Some d) f e =
       let g : Some d.lines ≡ Some lines = subst (λ (x : Option Lines). x ≡ Some lines) (rw (e, f) refl) h in
       let is : d.lines ≡ lines = cc in
-      domain_imports b.domains k d f ∙ ap (λ (ls : Lines). Some (declared_names (imports ls))) is
+      domain_imports (kept b) 0 b.domains k d (is_kept b load domain k named e) f ∙ ap (λ (ls : Lines). Some (declared_names (imports ls))) is
 
   by : (o : Option ℕ) → place_of domain (domain_names b) ≡ o → item_at (known_names b).imports (place_of domain (domain_names b)) ≡ Some (declared_names (imports lines))
   by None e = absurd (let g : None ≡ Some lines = subst (λ (x : Option Lines). x ≡ Some lines) (rw e refl) h in cc)
   by (Some k) e = rw e (there k (slice_get b.domains k) refl e)
 
-item_lines : (b : Bundle) (domain : List ℕ) (names : List (List ℕ)) → item_at (known_names b).imports (place_of domain (domain_names b)) ≡ Some names → (lines : Lines) × (lines_of_domain b domain ≡ Some lines) × (names ≡ declared_names (imports lines))
-item_lines b domain names h = by (place_of domain (domain_names b)) refl where
+item_lines : (b : Bundle) (load : Option ℕ) (domain : List ℕ) (names : List (List ℕ)) → item_at (known_names b).loaded load ≡ Some domain → item_at (known_names b).imports (place_of domain (domain_names b)) ≡ Some names → (lines : Lines) × (lines_of_domain b domain ≡ Some lines) × (names ≡ declared_names (imports lines))
+item_lines b load domain names named h = by (place_of domain (domain_names b)) refl where
   there : (k : ℕ) (d : DomainText) → place_of domain (domain_names b) ≡ Some k → slice_get b.domains k ≡ Some d → lines_of_domain b domain ≡ Some d.lines
   there k d e f = rw (e, f) refl
 
   by : (o : Option ℕ) → place_of domain (domain_names b) ≡ o → (lines : Lines) × (lines_of_domain b domain ≡ Some lines) × (names ≡ declared_names (imports lines))
   by None e = absurd (let g : None ≡ Some names = subst (λ (o : Option ℕ). item_at (known_names b).imports o ≡ Some names) e h in cc)
   by (Some k) e =
-      let d = imports_domain b.domains k names (subst (λ (o : Option ℕ). item_at (known_names b).imports o ≡ Some names) e h) in
+      let d = imports_domain (kept b) 0 b.domains k names (is_kept b load domain k named e) (subst (λ (o : Option ℕ). item_at (known_names b).imports o ≡ Some names) e h) in
       (d.0.lines, there k d.0 e d.1, d.2)
 
 untrue : IsTrue false → ⊥
@@ -139,7 +137,8 @@ untrue h = absurd cc
 
 lacks_true : (b : Bundle) (load import : List ℕ) → LacksImport b load import → IsTrue (lacks (imports_of_load (known_names b) load) import)
 lacks_true b load import l =
-    let table : imports_of_load (known_names b) load ≡ Some (declared_names (imports l.lines)) = ap (imports_of_domain (known_names b)) (sym (domain_item b load) ∙ l.loaded) ∙ lines_item b l.domain l.lines l.text in
+    let named : item_at (known_names b).loaded (place_of load (load_names b)) ≡ Some l.domain = sym (domain_item b load) ∙ l.loaded in
+    let table : imports_of_load (known_names b) load ≡ Some (declared_names (imports l.lines)) = ap (imports_of_domain (known_names b)) named ∙ lines_item b (place_of load (load_names b)) l.domain l.lines named l.text in
     subst (λ (o : Option (List (List ℕ))). IsTrue (lacks o import)) (sym table) (none_is_unknown (declared_names (imports l.lines)) import l.unknown)
 
 true_lacks : (b : Bundle) (load import : List ℕ) → IsTrue (lacks (imports_of_load (known_names b) load) import) → LacksImport b load import
@@ -147,7 +146,7 @@ true_lacks b load import h = by (item_at (known_names b).loaded (place_of load (
   table : (domain : List ℕ) (o : Option (List (List ℕ))) → item_at (known_names b).loaded (place_of load (load_names b)) ≡ Some domain → item_at (known_names b).imports (place_of domain (domain_names b)) ≡ o → LacksImport b load import
   table domain None e f = absurd (untrue (subst (λ (o : Option (List (List ℕ))). IsTrue (lacks o import)) (ap (imports_of_domain (known_names b)) e ∙ f) h))
   table domain (Some names) e f =
-      let t = item_lines b domain names f in
+      let t = item_lines b (place_of load (load_names b)) domain names e f in
       let u = subst (λ (o : Option (List (List ℕ))). IsTrue (lacks o import)) (ap (imports_of_domain (known_names b)) e ∙ f) h in
       record {
         domain = domain;

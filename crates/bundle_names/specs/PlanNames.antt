@@ -1,8 +1,10 @@
 -- Rules 3 and 4 in the plan.
-use Rattle.std.specs.Prelude.{◌≡◌, ℕ, ◌||◌, ◌⊎◌, Bool, List, [], ◌∷◌, ◌++◌, Option, None, Some, false, map}
+use Rattle.std.specs.Prelude.{◌≡◌, ℕ, ◌+◌, ◌==◌, ◌||◌, ◌⊎◌, Bool, if◌then◌else◌, List, [], ◌∷◌, ◌++◌, Option, None, Some, false, map}
+use Rattle.std.specs.List.{list_any}
 use Rattle.rl_defs.specs.declared.bundle.PlanLine.{PlanLine}
 use Rattle.rl_defs.specs.declared.bundle.PlanLine.TheVariants as plan
 use Rattle.rl_defs.specs.declared.bundle.Bundle.{Bundle}
+use Rattle.rl_defs.specs.declared.code.DomainText.{DomainText}
 use Rattle.rl_defs.specs.Refusals.{Failing}
 use Rattle.rl_defs.specs.Interfaces.{place_of}
 use Rattle.rl_defs.specs.CodeNames.{Declared, imports}
@@ -55,11 +57,25 @@ gives_again g form =
 abbrev pub declared_names : List Declared → List (List ℕ)
 declared_names declared = map (λ d. d.name) declared
 
--- the names of a bundle that a line of the plan may use
+-- a place is this number
+abbrev pub is_place : ℕ → Option ℕ → Bool
+is_place number None = false
+is_place number (Some place) = number == place
+
+-- a load names the domain with this number
+abbrev pub is_loaded : List (List ℕ) → List (List ℕ) → ℕ → Bool
+is_loaded loaded domains number = list_any (λ name. is_place number (place_of name domains)) loaded
+
+-- the imports of each domain that is kept, by its number, where the first has this number; of another domain nothing is kept
+abbrev pub imports_from : (ℕ → Bool) → ℕ → List DomainText → List (List (List ℕ))
+imports_from is_kept number [] = []
+imports_from is_kept number (d ∷ ds) = (if is_kept number then declared_names (imports d.lines) else []) ∷ imports_from is_kept (number + 1) ds
+
+-- the names of a bundle that a line of the plan may use: the imports are those of the domains that are loaded
 abbrev pub known_names : Bundle → Known
 known_names b = record {
   domains = domain_names b;
-  imports = map (λ d. declared_names (imports d.lines)) b.domains;
+  imports = imports_from (is_loaded (names_of (given_by domains_loaded b.plan.lines)) (domain_names b)) 0 b.domains;
   loads = load_names b;
   loaded = names_of (given_by domains_loaded b.plan.lines);
   targets = target_names b;

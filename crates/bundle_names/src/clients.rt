@@ -42,7 +42,7 @@ pub fn check_client_names(alloc: Global, bundle: &Bundle) -> Result<(), LoadFaul
     let mut scripts = no_scripts(alloc);
     'lines: for line in bundle.clients.lines.as_slice() {
         let nothing = uses_nothing(&usable, &scripts, &line.form);
-        let Ok(again) = take(alloc, &mut scripts, &line.form) else {
+        let Ok(again) = take(&mut scripts, &line.form) else {
             return Err(LoadFault::Memory);
         };
         if let Some(rule) = rule_of(again, nothing) {
@@ -83,13 +83,13 @@ fn bind_all(bound: &mut Names, names: &[Name]) -> Result<bool, Memory>
 }
 
 // Takes what a line of the clients gives, and says whether it was given before.
-pub(crate) fn take(alloc: Global, scripts: &mut Scripts, form: &ClientLine) -> Result<bool, Memory>
+pub(crate) fn take(scripts: &mut Scripts, form: &ClientLine) -> Result<bool, Memory>
     ensures again { IfOk result (λ again. again ≡ names_again scripts.old form.now) }
     ensures after { OnOk result (scripts.new ≡ script_after scripts.old form.now) }
 {
     match form {
         ClientLine::Client(name) => {
-            scripts.bound = Names::new(alloc);
+            scripts.bound.clear();
             add(&mut scripts.clients, name)
         }
         ClientLine::Let { name, .. } | ClientLine::Text { name, .. } => {

@@ -1,11 +1,11 @@
 //! The names that a bundle declares, with look-ups.
-ghost use Rattle.std.specs.Prelude.{◌≡◌, ◌∷◌, [], ◌++◌, map, OnOk, IfOk};
+ghost use Rattle.std.specs.Prelude.{◌≡◌, ℕ, ◌<◌, ◌||◌, false, if◌then◌else◌, get_or, length, ◌∷◌, [], ◌++◌, OnOk, IfOk};
 ghost use Rattle.std.specs.List.{flat_map};
 ghost use Rattle.std.specs.Option.{option_copied};
 ghost use Rattle.rl_defs.specs.CodeNames.{imports};
-ghost use Rattle.rl_defs.specs.BundleNames.{names_of, given_by, domain_given, import_given, domains_loaded, target_given, load_given, client_given};
+ghost use Rattle.rl_defs.specs.BundleNames.{names_of, given_by, domain_given, import_given, domains_loaded, target_given, load_given, client_given, domain_names};
 ghost use Rattle.bundle_names.specs.Tests.{is_given, is_unknown, lacks, has_unknown};
-ghost use Rattle.bundle_names.specs.PlanNames.{declared_names, known_names, imports_of_load};
+ghost use Rattle.bundle_names.specs.PlanNames.{declared_names, known_names, imports_of_load, is_place, is_loaded, imports_from};
 
 use name_tables::names::Names;
 use rl_defs::Memory;
@@ -107,7 +107,7 @@ fn add_domains(names: &mut Names, lines: &[Numbered<DomainLine>]) -> Result<(), 
 fn domain_names(alloc: Global, domains: &[DomainText]) -> Result<Names, Memory>
     ensures { IfOk result (λ names. names ≡ names_of (given_by domain_given (flat_map (λ d. d.lines) domains.now))) }
 {
-    let mut names = Names::new(alloc);
+    let mut names = Names::with_room(alloc, domains.len());
     'domains: for domain in domains {
         add_domains(&mut names, domain.lines.as_slice())?;
     }
@@ -124,15 +124,82 @@ fn imports_of(alloc: Global, lines: &[Numbered<DomainLine>]) -> Result<Names, Me
     Ok(names)
 }
 
-fn imports_by_domain(alloc: Global, domains: &[DomainText]) -> Result<List<Names>, Memory>
-    ensures { IfOk result (λ all. all ≡ map (λ d. declared_names (imports d.lines)) domains.now) }
+// Marks the place, if there is one.
+fn mark(marks: &mut Vec<bool>, place: Option<u32>)
+    ensures count { length marks.new.items ≡ length marks.old.items }
+    ensures marks { (number : ℕ) → number < length marks.old.items → get_or marks.new.items number false ≡ (is_place number place || get_or marks.old.items number false) }
 {
-    let mut all = List::new(alloc);
-    'domains: for domain in domains {
-        let names = imports_of(alloc, domain.lines.as_slice())?;
+    if let Some(place) = place {
+        let place = place as usize;
+        if place < marks.len() {
+            marks[place] = true;
+        }
+    }
+}
+
+// Which of so many domains are loaded, by their numbers.
+fn loaded_domains(
+    alloc: Global,
+    domains: &Names,
+    count: usize,
+    loaded: &[Name],
+) -> Result<Vec<bool>, Memory>
+    ensures count { IfOk result (λ marks. length marks.items ≡ count) }
+    ensures marks { IfOk result (λ marks. (number : ℕ) → number < count → get_or marks.items number false ≡ is_loaded loaded.now domains.now number) }
+{
+    let Ok(mut marks) = vec![in alloc; false; count] else {
+        return Err(Memory);
+    };
+    'loads: for name in loaded {
+        mark(&mut marks, domains.place(name));
+    }
+    Ok(marks)
+}
+
+// The imports of a domain that is kept, and none of another.
+fn imports_kept(alloc: Global, is_kept: bool, domain: &DomainText) -> Result<Names, Memory>
+    ensures { IfOk result (λ names. names ≡ (if is_kept then declared_names (imports domain.now.lines) else [])) }
+{
+    if is_kept {
+        imports_of(alloc, domain.lines.as_slice())
+    } else {
+        Ok(Names::new(alloc))
+    }
+}
+
+// The imports of the domains that are marked. A bundle may have many domains that no load names, and no table is made of theirs.
+fn imports_by_domain(
+    alloc: Global,
+    domains: &[DomainText],
+    marks: &[bool],
+) -> Result<List<Names>, Memory>
+    requires { length marks.now ≡ length domains.now }
+    ensures { IfOk result (λ all. all ≡ imports_from (λ number. get_or marks.now number false) 0 domains.now) }
+{
+    let mut room = Vec::new(alloc);
+    let _ = room.reserve(domains.len());
+    let mut all = List::from_vec(room);
+    'domains: for number in 0..domains.len() {
+        let names = imports_kept(alloc, marks[number], &domains[number])?;
         all.push(names)?;
     }
     Ok(all)
+}
+
+// The imports of the domains that are loaded, by the numbers of the domains.
+fn imports_of_loaded(
+    alloc: Global,
+    bundle: &Bundle,
+    domains: &Names,
+    loaded: &[Name],
+) -> Result<List<Names>, Memory>
+    requires domains { domains.now ≡ domain_names bundle.now }
+    requires loaded { loaded.now ≡ names_of (given_by domains_loaded bundle.now.plan.lines) }
+    ensures { IfOk result (λ all. all ≡ (known_names bundle.now).imports) }
+{
+    let texts = bundle.domains.as_slice();
+    let marks = loaded_domains(alloc, domains, texts.len(), loaded)?;
+    imports_by_domain(alloc, texts, marks.as_slice())
 }
 
 fn load_names(alloc: Global, lines: &[Numbered<PlanLine>]) -> Result<Names, Memory>
@@ -176,8 +243,8 @@ fn client_names(alloc: Global, lines: &[Numbered<ClientLine>]) -> Result<Names, 
     Ok(names)
 }
 
-/// The names that lines of the plan may use. The imports stand by the number of their domain, the domains that are loaded by the number of
-/// their load.
+/// The names that lines of the plan may use. The imports stand by the number of their domain, and those of domains that no load names are
+/// left out; the domains that are loaded stand by the number of their load.
 #[derive(Drop)]
 pub struct Known {
     pub domains: Names,
@@ -193,13 +260,15 @@ impl Known {
     pub fn new(alloc: Global, bundle: &Bundle) -> Result<Known, Memory>
         ensures { IfOk result (λ k. k ≡ known_names bundle.now) }
     {
-        let domains = bundle.domains.as_slice();
         let plan = bundle.plan.lines.as_slice();
+        let domains = domain_names(alloc, bundle.domains.as_slice())?;
+        let loaded = domains_loaded(alloc, plan)?;
+        let imports = imports_of_loaded(alloc, bundle, &domains, loaded.as_slice())?;
         Ok(Known {
-            domains: domain_names(alloc, domains)?,
-            imports: imports_by_domain(alloc, domains)?,
+            domains,
+            imports,
             loads: load_names(alloc, plan)?,
-            loaded: domains_loaded(alloc, plan)?,
+            loaded,
             targets: target_names(alloc, plan)?,
             clients: client_names(alloc, bundle.clients.lines.as_slice())?,
         })

@@ -6,7 +6,7 @@ ghost use Rattle.declared_names.specs.Scopes.{rule_when};
 ghost use Rattle.declared_names.specs.DomainNames.{at_domain, domain_role, slot_role, import_role, function_role, label_role, declared_behind, HasSpace, is_given_again, is_absent, is_kind_unknown, names_unknown};
 
 use crate::known::Known;
-use crate::roles::{Role, pass, rule_when};
+use crate::roles::{Role, ScopeNames, pass, rule_when};
 use name_tables::names::Names;
 use rl_defs::Memory;
 use rl_defs::code::{DomainLine, HeadItem, HeadKind, Instr};
@@ -16,41 +16,40 @@ use std::alloc::Global;
 /// The names that the lines so far have given: of domains; of slots, imports and functions of the domain; of labels of the function.
 #[derive(Drop)]
 pub struct Declared {
-    domains: Option<Names>,
-    slots: Option<Names>,
-    imports: Option<Names>,
-    functions: Option<Names>,
-    labels: Option<Names>,
+    domains: ScopeNames,
+    slots: ScopeNames,
+    imports: ScopeNames,
+    functions: ScopeNames,
+    labels: ScopeNames,
 }
 
 impl Declared {
-    /// Nothing was given yet.
-    pub fn new(alloc: Global) -> Declared
+    /// Nothing was given yet. There is room for so many domains.
+    pub fn new(alloc: Global, count: usize) -> Declared
         ensures { result ≡ at_domain (Some []) }
     {
         Declared {
-            domains: Some(Names::new(alloc)),
-            slots: Some(Names::new(alloc)),
-            imports: Some(Names::new(alloc)),
-            functions: Some(Names::new(alloc)),
-            labels: None,
+            domains: ScopeNames::opened(alloc, count),
+            slots: ScopeNames::opened(alloc, 0),
+            imports: ScopeNames::opened(alloc, 0),
+            functions: ScopeNames::opened(alloc, 0),
+            labels: ScopeNames::closed(alloc),
         }
     }
 
     /// Begins the next domain, which may give the names of another's slots, imports, functions and labels again.
-    pub fn begin(&mut self, alloc: Global)
+    pub fn begin(&mut self)
         ensures { self.new ≡ at_domain self.old.domains }
     {
-        self.slots = Some(Names::new(alloc));
-        self.imports = Some(Names::new(alloc));
-        self.functions = Some(Names::new(alloc));
-        self.labels = None;
+        self.slots.open();
+        self.imports.open();
+        self.functions.open();
+        self.labels.close();
     }
 
     /// Takes one line more, and gives the lower of the rules 3 and 4 that fails there.
     pub fn rule_of(
         &mut self,
-        alloc: Global,
         known: &Known,
         methods: &Names,
         line: &DomainLine,
@@ -59,7 +58,7 @@ impl Declared {
         ensures behind { OnOk result (self.new ≡ declared_behind line.now self.old) }
         ensures rule { IfOk result (λ rule. rule ≡ rule_when (is_given_again line.now self.old) (names_unknown known.now.structs known.now.traits methods.now line.now)) }
     {
-        let repeats = self.pass(alloc, line)?;
+        let repeats = self.pass(line)?;
         Ok(rule_when(
             repeats,
             names_unknown(&known.structs, &known.traits, methods, line),
@@ -67,7 +66,7 @@ impl Declared {
     }
 
     // Takes one line more, and tells whether it gives a name again. Most lines are code, which gives none.
-    fn pass(&mut self, alloc: Global, line: &DomainLine) -> Result<bool, Memory>
+    fn pass(&mut self, line: &DomainLine) -> Result<bool, Memory>
         requires { HasSpace self.old }
         ensures behind { OnOk result (self.new ≡ declared_behind line.now self.old) }
         ensures repeats { IfOk result (λ again. again ≡ is_given_again line.now self.old) }
@@ -75,14 +74,14 @@ impl Declared {
         match line {
             DomainLine::Code(_) | DomainLine::Words(_) | DomainLine::Native(_) => Ok(false),
             DomainLine::Head(_, _) | DomainLine::Close => {
-                pass(alloc, &mut self.labels, label_role(line))
+                pass(&mut self.labels, label_role(line))
             }
-            DomainLine::Domain(_, _) => pass(alloc, &mut self.domains, domain_role(line)),
-            DomainLine::Slot(_, _) => pass(alloc, &mut self.slots, slot_role(line)),
-            DomainLine::Import(_, _) => pass(alloc, &mut self.imports, import_role(line)),
+            DomainLine::Domain(_, _) => pass(&mut self.domains, domain_role(line)),
+            DomainLine::Slot(_, _) => pass(&mut self.slots, slot_role(line)),
+            DomainLine::Import(_, _) => pass(&mut self.imports, import_role(line)),
             DomainLine::Function(_) => {
-                let function = pass(alloc, &mut self.functions, function_role(line))?;
-                let label = pass(alloc, &mut self.labels, label_role(line))?;
+                let function = pass(&mut self.functions, function_role(line))?;
+                let label = pass(&mut self.labels, label_role(line))?;
                 Ok(function || label)
             }
         }

@@ -32,15 +32,14 @@ fn first_fault(alloc: Global, known: &Known, domains: &[DomainText]) -> Result<(
     requires each { All IsDomainText domains.now }
     ensures { Answers (Somewhere (FailsAtDomain known.now domains.now)) (λ _. Unit {0}) result }
 {
-    let mut declared = Declared::new(alloc);
+    let mut declared = Declared::new(alloc, domains.len());
     'domains: for domain in domains {
-        check_domain(alloc, known, &mut declared, domain)?;
+        check_domain(known, &mut declared, domain)?;
     }
     Ok(())
 }
 
 fn check_domain(
-    alloc: Global,
     known: &Known,
     declared: &mut Declared,
     domain: &DomainText,
@@ -51,11 +50,11 @@ fn check_domain(
     ensures domains { OnOk result (declared.new.domains ≡ behind_all domain_role declared.old.domains domain.now.lines) }
     ensures answer { Answers (FailsIn known.now declared.old.domains domain.now.lines) (λ _. Unit {0}) result }
 {
-    declared.begin(alloc);
+    declared.begin();
     let lines = domain.lines.as_slice();
     let methods = known.methods_of_domain(lines);
     'lines: for line in lines {
-        let Ok(rule) = declared.rule_of(alloc, known, methods, &line.form) else {
+        let Ok(rule) = declared.rule_of(known, methods, &line.form) else {
             return Err(LoadFault::Memory);
         };
         if let Some(rule) = rule {

@@ -5,7 +5,7 @@ ghost use Rattle.rl_defs.specs.Interfaces.{result_types, struct_names, trait_nam
 ghost use Rattle.declared_names.specs.Scopes.{names_in, rule_when};
 ghost use Rattle.declared_names.specs.InterfaceNames.{declared_role, field_role, method_role, is_twice, repeats_param, given_behind, HasRoom, is_repeated, is_unknown, has_unknown};
 
-use crate::roles::{Role, pass, rule_when};
+use crate::roles::{Role, ScopeNames, pass, rule_when};
 use name_tables::names::Names;
 use rl_defs::Memory;
 use rl_defs::idl::{Base, IdlLine, Param, ResultText, TypeText};
@@ -14,9 +14,9 @@ use std::alloc::Global;
 /// The names that the lines so far have given: structs and traits, and the fields and methods of the struct or trait that is open.
 #[derive(Drop)]
 pub struct Given {
-    declared: Option<Names>,
-    fields: Option<Names>,
-    methods: Option<Names>,
+    declared: ScopeNames,
+    fields: ScopeNames,
+    methods: ScopeNames,
 }
 
 impl Given {
@@ -25,9 +25,9 @@ impl Given {
         ensures { result ≡ record { declared = Some []; fields = None; methods = None } }
     {
         Given {
-            declared: Some(Names::new(alloc)),
-            fields: None,
-            methods: None,
+            declared: ScopeNames::opened(alloc, 0),
+            fields: ScopeNames::closed(alloc),
+            methods: ScopeNames::closed(alloc),
         }
     }
 
@@ -53,9 +53,9 @@ impl Given {
         ensures behind { OnOk result (self.new ≡ given_behind line.now self.old) }
         ensures repeats { IfOk result (λ again. again ≡ is_repeated line.now self.old) }
     {
-        let declared = pass(alloc, &mut self.declared, declared_role(line))?;
-        let field = pass(alloc, &mut self.fields, field_role(line))?;
-        let method = pass(alloc, &mut self.methods, method_role(line))?;
+        let declared = pass(&mut self.declared, declared_role(line))?;
+        let field = pass(&mut self.fields, field_role(line))?;
+        let method = pass(&mut self.methods, method_role(line))?;
         let param = repeats_param(alloc, line)?;
         Ok(declared || (field || (method || param)))
     }

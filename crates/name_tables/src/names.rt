@@ -39,6 +39,32 @@ impl Names {
         }
     }
 
+    /// No names, and room for as many as are counted. It is a help alone, so where memory for it isn't found it is left away.
+    pub fn with_room(alloc: Global, count: usize) -> Names
+        ensures { result ≡ [] }
+    {
+        let mut names = Names::new(alloc);
+        let _ = names.names.reserve(count);
+        let _ = names.places.reserve(count);
+        names
+    }
+
+    /// Takes all names out. Their memory is kept, unless it is for many more than they were: so this takes time for the names alone.
+    pub fn clear(&mut self)
+        ensures { self.new ≡ [] }
+    {
+        let count = self.names.len();
+        if count == 0 {
+            return;
+        }
+        self.names.clear();
+        if self.places.capacity() / 8 > count {
+            self.places = IndexMap::new(*self.names.allocator());
+        } else {
+            self.places.clear();
+        }
+    }
+
     /// Adds a name, and gives the place where it stood before, from 0, if it did. After `Memory` the names are as before.
     pub fn add(&mut self, name: &Name) -> Result<Option<u32>, Memory>
         requires room { length self.old < 2 ^ 32 - 1 }

@@ -20,3 +20,17 @@ fn places_of_names(rt: HostRuntime) -> Result<(), Fail> {
     assert_eq!(rt; names.len(), 5);
     Ok(())
 }
+
+#[test]
+fn tables_used_again(rt: HostRuntime) -> Result<(), Fail> {
+    let a = Name::read(b"a").ok_or("no name")?;
+    let b = Name::read(b"b").ok_or("no name")?;
+    let mut names = Names::with_room(rt.alloc(), 2);
+    assert_eq!(rt; names.add(&a)?, None);
+    names.clear();
+    assert_eq!(rt; names.len(), 0);
+    assert_eq!(rt; names.place(&a), None);
+    assert_eq!(rt; names.add(&b)?, None);
+    assert_eq!(rt; names.place(&b), Some(0));
+    Ok(())
+}

@@ -1,11 +1,11 @@
-use Rattle.std.proofs.Common.{◌≡◌, ℕ, ◌+◌, List, Some, None, length, refl, sym, ap, subst, ◌∙◌, arith, drop}
+use Rattle.std.proofs.Common.{◌≡◌, ◌+◌, List, Some, None, length, refl, sym, ap, subst, ◌∙◌, arith, drop}
 use Rattle.std.specs.Prelude.{slice_get}
 use Rattle.std.proofs.lemmas.Option.{slice_get_read}
 use Rattle.rl_defs.specs.declared.bundle.Numbered.{Numbered}
 use Rattle.rl_defs.specs.declared.bundle.ClientLine.{ClientLine}
 use Rattle.bundle_names.specs.declared.clients.Usable.{Usable}
 use Rattle.bundle_names.specs.declared.clients.Scripts.{Scripts}
-use Rattle.bundle_names.specs.ClientNames.{FailsClientNames, no_scripts, script_after, names_again, uses_nothing}
+use Rattle.bundle_names.specs.ClientNames.{FailsClientNames, script_after, names_again, uses_nothing}
 use Rattle.bundle_names.proofs.Walking.{Left, left_next, left_fails, left_all, rule_same}
 use Rattle.bundle_names.proofs.ClientLaws.{nothing_used, clients_left}
 use Rattle.bundle_names.proofs.PartNumbers.{clients_rise}

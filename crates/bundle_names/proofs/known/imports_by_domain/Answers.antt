@@ -1,17 +1,20 @@
-use Rattle.std.proofs.Common.{◌≡◌, ◌++◌, ℕ, List, Some, length, map, refl, sym, ap, ◌∙◌, arith}
+use Rattle.std.proofs.Common.{◌≡◌, ℕ, ◌++◌, Bool, false, List, Some, length, refl, ap, ◌∙◌, arith, get_or}
 use Rattle.std.specs.Prelude.{slice_get}
 use Rattle.std.proofs.lemmas.Option.{slice_get_read}
-use Rattle.rl_defs.specs.declared.code.DomainText.{DomainText}
-use Rattle.rl_defs.specs.Domains.{Lines}
-use Rattle.rl_defs.specs.CodeNames.{imports}
-use Rattle.bundle_names.specs.PlanNames.{declared_names}
-use Rattle.bundle_names.proofs.Listing.{mapped_more, mapped_all}
+use Rattle.bundle_names.specs.PlanNames.{imports_from}
+use Rattle.bundle_names.proofs.Loading.{kept_more, kept_all}
 use Rattle.bundle_names.proofs.known.imports_by_domain.Goals as goal
+
+abbrev is_kept : List Bool → ℕ → Bool
+is_kept marks number = get_or marks number false
+
+pub domains-init : goal.domains-init
+domains-init c = ap (λ (names : List (List (List ℕ))). names ++ imports_from (is_kept c.args.marks.now) 0 c.args.domains.now) (c.from_vec-all.ensures ∙ c.reserve.ensures.items ∙ c.new-room.ensures.items)
 
 pub domains-preserved : goal.domains-preserved
 domains-preserved c =
-    let here : slice_get c.args.domains.now c.domains.domain-index ≡ Some c.domain-item.result = slice_get_read c.args.domains.now (length c.args.domains.now) c.domains.domain-index c.domain-item.result refl c.domains-test.true c.domain-item.is in
-    mapped_more (λ (d : DomainText). declared_names (imports d.lines)) c.args.domains.now c.domains.domain-index c.domain-item.result (map (λ d. declared_names (imports d.lines)) c.args.domains.now) c.domains.all c.push.new.self c.in_ok-names.names here c.domains.invariant c.in_ok-push.ensures.ok (c.in_ok-names.ensures ∙ ap (λ (ls : Lines). declared_names (imports ls)) c.as_slice.ensures)
+    let here : slice_get c.args.domains.now c.domains.number ≡ Some c.index-domains-number.result = slice_get_read c.args.domains.now (length c.args.domains.now) c.domains.number c.index-domains-number.result refl c.domains-test.true c.index-domains-number.is in
+    kept_more (is_kept c.args.marks.now) c.args.domains.now c.domains.number c.index-domains-number.result (imports_from (is_kept c.args.marks.now) 0 c.args.domains.now) c.domains.all c.push.new.self c.in_ok-names.names here c.domains.invariant c.in_ok-push.ensures.ok c.in_ok-names.ensures
 
 pub returns : goal.returns
-returns c = mapped_all (λ (d : DomainText). declared_names (imports d.lines)) c.args.domains.now c.domains.domain-index (map (λ d. declared_names (imports d.lines)) c.args.domains.now) c.domains.all (omega arith) c.domains.invariant
+returns c = kept_all (is_kept c.args.marks.now) c.args.domains.now c.domains.number (imports_from (is_kept c.args.marks.now) 0 c.args.domains.now) c.domains.all (omega (arith, c.domains-test.false)) c.domains.invariant

@@ -1,7 +1,6 @@
-use Rattle.std.proofs.Common.{◌≡◌, ◌++◌, map, drop}
-use Rattle.rl_defs.specs.CodeNames.{imports}
-use Rattle.bundle_names.specs.PlanNames.{declared_names}
+use Rattle.std.proofs.Common.{◌≡◌, ◌++◌, false, drop, get_or}
+use Rattle.bundle_names.specs.PlanNames.{imports_from}
 use Rattle.bundle_names.proofs.known.imports_by_domain.Given as goal
 
 abbrev pub invariant-domains : goal.invariant-domains
-invariant-domains l = l.all ++ map (λ d. declared_names (imports d.lines)) (drop l.domain-index l.domains) ≡ map (λ d. declared_names (imports d.lines)) l.domains
+invariant-domains l = l.all ++ imports_from (λ number. get_or l.marks number false) l.number (drop l.number l.domains) ≡ imports_from (λ number. get_or l.marks number false) 0 l.domains
