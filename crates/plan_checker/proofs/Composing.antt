@@ -1,27 +1,19 @@
 -- The answers of the parts, and what they say of the whole bundle.
-use Rattle.std.proofs.Common.{◌≡◌, ℕ, ◌<◌, ◌≤◌, ◌⊎◌, inl, inr, List, Some, refl, sym, ap, subst, ◌∙◌, arith, lt-ltb}
-use Rattle.std.specs.Prelude.{slice_get, Result, Ok, Err}
+use Rattle.std.proofs.Common.{inl, inr, List, refl, lt-ltb}
+use Rattle.std.specs.Prelude.{Result, Ok, Err}
 use Rattle.std.proofs.lemmas.Bool.{cases_lt}
 use Rattle.rl_defs.specs.declared.LoadFault.{LoadFault}
 use Rattle.rl_defs.specs.declared.LoadFault.TheVariants.{Refused, Memory}
-use Rattle.rl_defs.specs.declared.idl.Idl.{Idl}
-use Rattle.rl_defs.specs.declared.bundle.Plan.{Plan}
-use Rattle.rl_defs.specs.declared.bundle.Clients.{Clients}
 use Rattle.rl_defs.specs.declared.bundle.Bundle.{Bundle}
 use Rattle.rl_defs.specs.declared.bundle.PlanLine.TheVariants as plan
 use Rattle.rl_defs.specs.DomainValue.{Domain}
 use Rattle.rl_defs.specs.BundleNames.{ClientLines}
-use Rattle.rl_defs.specs.BundleOrder.{bundle_of}
-use Rattle.rl_defs.specs.Refusals.{IsFirst, Nowhere, Answers}
-use Rattle.rl_defs.specs.PlanRules.{FailsPlanRules}
-use Rattle.plan_checker.specs.declared.rows.PlanRows.{PlanRows}
-use Rattle.plan_checker.specs.Facts.{HasLoadNames}
+use Rattle.rl_defs.specs.Refusals.{Nowhere, Answers}
 use Rattle.plan_checker.specs.LineScan.{FailsIn}
 use Rattle.plan_checker.specs.Limits.{FailsDomains, FailsClientLine}
-use Rattle.plan_checker.specs.Lookups.{PlanLines, plan_bundle}
-use Rattle.plan_checker.specs.PlanTests.{FailsPlanLine, is_outside}
+use Rattle.plan_checker.specs.PlanTests.{FailsPlanLine}
 use Rattle.plan_checker.specs.Parts.{FailsParts, PartsRise}
-use Rattle.plan_checker.specs.Rows.{AreRowsOf, AreWithin}
+use Rattle.plan_checker.specs.Rows.{AreWithin}
 use Rattle.plan_checker.proofs.Members.{or_second}
 
 module _ (domains : List Domain) (b : Bundle) (clients : ClientLines) (rises : PartsRise domains b.plan.lines clients) where

@@ -1,5 +1,5 @@
 -- What a `bind` line binds, as a pair of names and as the names parted by a dot.
-use Rattle.std.proofs.Common.{◌≡◌, ℕ, zero, suc, ◌+◌, Bool, true, false, not, ◌&&◌, cond, nat_eq, List, [], ◌∷◌, ◌++◌, map, Option, Some, None, refl, sym, ap, subst, ◌∙◌, eqb-true, eq-eqb}
+use Rattle.std.proofs.Common.{◌≡◌, ℕ, suc, Bool, true, false, not, ◌&&◌, cond, nat_eq, List, [], ◌∷◌, ◌++◌, Option, Some, None, refl, sym, ap, subst, ◌∙◌, eqb-true}
 use Rattle.std.specs.Prelude.{slice_get, is_none, is_some, IsTrue}
 use Rattle.std.specs.List.{flat_map, list_all}
 use Rattle.std.specs.Option.{option_map}
@@ -12,8 +12,7 @@ use Rattle.rl_defs.specs.Words.{is_word, starts_word, is_word_byte, is_name, is_
 use Rattle.rl_defs.specs.Interfaces.{place_of}
 use Rattle.rl_defs.specs.BundleNames.{given_by, names_of, bind_given}
 use Rattle.rl_defs.specs.Standing.{bound_in}
-use Rattle.plan_checker.specs.Facts.{AreNames}
-use Rattle.plan_checker.specs.Lookups.{PlanLines, binding, bound_at}
+use Rattle.plan_checker.specs.Lookups.{PlanLines, bound_at}
 
 -- no byte is a dot
 abbrev pub NoDot : List ℕ → Type 0

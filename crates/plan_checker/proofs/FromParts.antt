@@ -1,39 +1,35 @@
 -- What fails in a part fails in the whole bundle.
-use Rattle.std.proofs.Common.{◌≡◌, ℕ, zero, suc, ◌+◌, ◌<◌, ◌≤◌, ◌⊎◌, inl, inr, Bool, true, false, not, ◌||◌, cond, nat_eq, nat_le, nat_lt, List, [], ◌∷◌, ◌++◌, map, take, length, Option, Some, None, refl, sym, ap, subst, ◌∙◌, arith, leb-true, ltb-true}
+use Rattle.std.proofs.Common.{◌≡◌, ℕ, inl, inr, Bool, true, false, not, cond, nat_eq, nat_le, nat_lt, List, ◌∷◌, ◌++◌, take, Option, Some, None, refl, ap, ◌∙◌, leb-true, ltb-true}
 use Rattle.std.specs.Prelude.{slice_get, is_none, is_some, IsTrue}
-use Rattle.std.specs.Option.{option_map}
 use Rattle.std.specs.Cmp.Lexicographic.{pointwise}
 use Rattle.rl_defs.specs.declared.idl.Idl.{Idl}
 use Rattle.rl_defs.specs.declared.bundle.Plan.{Plan}
 use Rattle.rl_defs.specs.declared.bundle.Clients.{Clients}
 use Rattle.rl_defs.specs.declared.bundle.Bundle.{Bundle}
-use Rattle.rl_defs.specs.declared.bundle.Numbered.{Numbered}
 use Rattle.rl_defs.specs.declared.bundle.PlanLine.{PlanLine}
 use Rattle.rl_defs.specs.declared.bundle.PlanLine.TheVariants as plan
 use Rattle.rl_defs.specs.declared.bundle.ClientLine.{ClientLine}
 use Rattle.rl_defs.specs.declared.bundle.ClientLine.TheVariants as client
 use Rattle.rl_defs.specs.declared.code.DomainLine.{DomainLine}
 use Rattle.rl_defs.specs.declared.code.DomainLine.TheVariants as line
-use Rattle.rl_defs.specs.declared.code.DomainText.{DomainText}
 use Rattle.rl_defs.specs.DomainValue.{Domain}
-use Rattle.rl_defs.specs.Domains.{Lines, trait_name, is_native}
+use Rattle.rl_defs.specs.Domains.{Lines, trait_name}
 use Rattle.rl_defs.specs.CodeNames.{Declared, imports, place_in, type_at}
 use Rattle.rl_defs.specs.Interfaces.{place_of}
 use Rattle.rl_defs.specs.BundleNames.{given, given_by, names_of, load_given, slot_given, client_given, load_names, lines_of_domain}
-use Rattle.rl_defs.specs.BundleOrder.{bundle_of, text_of}
-use Rattle.rl_defs.specs.PlanRules.{PlanIs, LoadIs, IsUnbound, HasOtherTrait, IsBoundBackwards, ShadowsNative, ShadowsAgain, RestartsTooOften, HasDeviceTwice, GoesOver, HasTooManySlots, HasTooManyCommands, HasTooManyWords, HasOtherFuel, HasOtherDevice, IsTooMuch, FailsPlanRules, load_of_target}
-use Rattle.rl_defs.proofs.Places.{get_within}
-use Rattle.plan_checker.specs.Facts.{AreNames, HasLoadNames}
-use Rattle.plan_checker.specs.LineScan.{FailsIn, given_before}
-use Rattle.plan_checker.specs.Limits.{FailsDomainLine, FailsDomains, FailsClientLine, is_over_in_domain, is_over_in_clients, commands_before, is_full}
-use Rattle.plan_checker.specs.Lookups.{PlanLines, plan_bundle, lines_loaded, lines_of_load, lines_of_named, lines_of_target, place_of_named, place_of_target, shadowed, binding, bound_at}
-use Rattle.plan_checker.specs.PlanTests.{has_unbound, is_unbound, differs, has_other_trait, is_behind, is_bound_backwards, has_native, is_badly_shadowed, loads_shadowed, device_given, is_outside, FailsPlanLine}
+use Rattle.rl_defs.specs.BundleOrder.{bundle_of}
+use Rattle.rl_defs.specs.PlanRules.{PlanIs, LoadIs, IsUnbound, HasOtherTrait, IsBoundBackwards, ShadowsNative, ShadowsAgain, HasDeviceTwice, GoesOver, HasTooManySlots, IsTooMuch, FailsPlanRules, load_of_target}
+use Rattle.plan_checker.specs.Facts.{HasLoadNames}
+use Rattle.plan_checker.specs.LineScan.{given_before}
+use Rattle.plan_checker.specs.Limits.{is_over_in_domain, is_over_in_clients, commands_before, is_full}
+use Rattle.plan_checker.specs.Lookups.{plan_bundle, lines_loaded, lines_of_load, lines_of_named, lines_of_target, place_of_named, place_of_target, shadowed, bound_at}
+use Rattle.plan_checker.specs.PlanTests.{has_unbound, differs, is_behind, has_native, loads_shadowed, device_given, FailsPlanLine}
 use Rattle.plan_checker.specs.Parts.{FailsParts}
-use Rattle.plan_checker.proofs.Dots.{NoDots, name_no_dot, bound_same}
-use Rattle.plan_checker.proofs.Members.{Passes, any_where, none_from, some_from, or_parts, get_giver, named_at, take_get, get_zero, shadow_one, device_one, outside_is, text_there}
+use Rattle.plan_checker.proofs.Dots.{name_no_dot, bound_same}
+use Rattle.plan_checker.proofs.Members.{any_where, none_from, some_from, or_parts, get_giver, named_at, take_get, get_zero, shadow_one, device_one, outside_is, text_there}
 use Rattle.plan_checker.proofs.Placing.{place_there}
-use Rattle.plan_checker.proofs.Scanning.{GivenAt, given_at, given_here}
-use Rattle.plan_checker.proofs.Scripts.{Goes, IsCommand, is_command}
+use Rattle.plan_checker.proofs.Scanning.{given_at, given_here}
+use Rattle.plan_checker.proofs.Scripts.{Goes, is_command}
 use Rattle.plan_checker.proofs.ToParts.{no_dots}
 
 module _ (idl : Idl) (domains : List Domain) (p : Plan) (c : Clients) where

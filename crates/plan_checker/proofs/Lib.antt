@@ -7,6 +7,7 @@ pub mod Steps
 pub mod Pairing
 pub mod Counting
 pub mod Tabling
+pub mod Keeping
 pub mod Lowest
 pub mod Dots
 pub mod Members

@@ -1,59 +1,43 @@
 -- Look-ups of domains, loads and targets.
-use Rattle.std.proofs.Common.{◌≡◌, ℕ, zero, suc, ◌+◌, ◌<◌, ◌≤◌, ◌^◌, Bool, true, false, not, cond, nat_eq, List, [], ◌∷◌, ◌++◌, length, map, Option, Some, None, refl, sym, ap, subst, ◌∙◌, arith}
-use Rattle.std.specs.Prelude.{slice_get, is_some, is_none, IsTrue}
-use Rattle.std.specs.List.{flat_map, list_any, slice_index_or}
+use Rattle.std.proofs.Common.{◌≡◌, ℕ, zero, suc, ◌+◌, Bool, true, false, not, cond, nat_eq, List, [], ◌∷◌, ◌++◌, length, map, Option, Some, None, refl, sym, ap, subst, ◌∙◌, arith}
+use Rattle.std.specs.Prelude.{slice_get, IsTrue}
+use Rattle.std.specs.List.{flat_map, slice_index_or}
 use Rattle.std.specs.Option.{option_map}
 use Rattle.std.specs.Cmp.Lexicographic.{pointwise}
-use Rattle.std.proofs.lemmas.Option.{slice_get-map}
 use Rattle.rl_defs.specs.declared.bundle.Bundle.{Bundle}
 use Rattle.rl_defs.specs.declared.bundle.Numbered.{Numbered}
 use Rattle.rl_defs.specs.declared.bundle.PlanLine.{PlanLine}
 use Rattle.rl_defs.specs.declared.bundle.PlanLine.TheVariants as plan
 use Rattle.rl_defs.specs.declared.code.DomainText.{DomainText}
-use Rattle.rl_defs.specs.DomainValue.{Domain}
 use Rattle.rl_defs.specs.Words.{is_name}
 use Rattle.rl_defs.specs.Interfaces.{place_of}
 use Rattle.rl_defs.specs.Domains.{Lines, trait_name}
-use Rattle.rl_defs.specs.CodeNames.{Declared, imports, place_in, type_at, type_of}
+use Rattle.rl_defs.specs.CodeNames.{Declared, imports, type_at, type_of}
 use Rattle.rl_defs.specs.BundleNames.{given_by, names_of, domain_names, load_names, domains_loaded, lines_of_domain, domain_of_load}
-use Rattle.rl_defs.specs.BundleOrder.{text_of}
 use Rattle.rl_defs.specs.PlanRules.{load_of_shadow, shadow_load}
 use Rattle.rl_defs.specs.Standing.{shadow_given, shadow_names, target_number, counted, bound_to, bound_in}
 use Rattle.plan_checker.specs.Facts.{AreNames, import_names, import_traits}
 use Rattle.plan_checker.specs.Lookups.{PlanLines, shadowed, bound_at}
 use Rattle.plan_checker.specs.PlanTests.{is_other_trait}
-use Rattle.plan_checker.specs.Tables.{bundle_with, text}
-use Rattle.plan_checker.proofs.Placing.{behind, place_within, number_first, place_second, no_empty, not_empty}
+use Rattle.plan_checker.proofs.Placing.{behind, number_first, place_second, no_empty}
 
-abbrev text_lines : Option DomainText → Option Lines
+abbrev pub text_lines : Option DomainText → Option Lines
 text_lines None = None
 text_lines (Some d) = Some d.lines
 
-abbrev lines_at : List DomainText → Option ℕ → Option Lines
+abbrev pub lines_at : List DomainText → Option ℕ → Option Lines
 lines_at domains None = None
 lines_at domains (Some k) = text_lines (slice_get domains k)
 
-look_domain : (b : Bundle) (name : List ℕ) → lines_of_domain b name ≡ lines_at b.domains (place_of name (domain_names b))
+-- the domain of a name, by its place
+pub look_domain : (b : Bundle) (name : List ℕ) → lines_of_domain b name ≡ lines_at b.domains (place_of name (domain_names b))
 look_domain b name = refl
 
-text_back : (domains : List Lines) (k : ℕ) → slice_get domains k ≡ text_lines (slice_get (map text domains) k)
-text_back [] zero = refl
-text_back [] (suc k) = refl
-text_back (d ∷ ds) zero = refl
-text_back (d ∷ ds) (suc k) = text_back ds k
-
--- the domain of a name, by its place
-pub domain_some : (domains : List Lines) (lines : PlanLines) (name : List ℕ) (k : ℕ) → place_of name (domain_names (bundle_with domains lines)) ≡ Some k → slice_get domains k ≡ lines_of_domain (bundle_with domains lines) name
-domain_some domains lines name k e = text_back domains k ∙ sym (look_domain (bundle_with domains lines) name ∙ ap (lines_at (map text domains)) e)
-
-pub domain_none : (domains : List Lines) (lines : PlanLines) (name : List ℕ) → place_of name (domain_names (bundle_with domains lines)) ≡ None → lines_of_domain (bundle_with domains lines) name ≡ None
-domain_none domains lines name e = look_domain (bundle_with domains lines) name ∙ ap (lines_at (map text domains)) e
-
-abbrev name_at : List (List ℕ) → Option ℕ → Option (List ℕ)
+abbrev pub name_at : List (List ℕ) → Option ℕ → Option (List ℕ)
 name_at names None = None
 name_at names (Some k) = slice_get names k
 
-look_loaded : (b : Bundle) (load : List ℕ) → domain_of_load b load ≡ name_at (names_of (given_by domains_loaded b.plan.lines)) (place_of load (load_names b))
+pub look_loaded : (b : Bundle) (load : List ℕ) → domain_of_load b load ≡ name_at (names_of (given_by domains_loaded b.plan.lines)) (place_of load (load_names b))
 look_loaded b load = refl
 
 pub loaded_some : (b : Bundle) (load : List ℕ) (k : ℕ) → place_of load (load_names b) ≡ Some k → slice_get (names_of (given_by domains_loaded b.plan.lines)) k ≡ domain_of_load b load

@@ -1,20 +1,17 @@
 -- The lowest rule at a line of the plan.
-use Rattle.std.proofs.Common.{◌≡◌, ℕ, ◌+◌, ◌≤◌, ◌⊎◌, inl, inr, Bool, true, false, ◌||◌, nat_le, nat_lt, List, [], ◌∷◌, ◌++◌, length, take, map, Option, Some, None, refl, sym, ap, subst, ◌∙◌, arith}
-use Rattle.std.specs.Prelude.{slice_get, is_some, is_none}
+use Rattle.std.proofs.Common.{◌≡◌, ℕ, ◌+◌, ◌≤◌, Bool, false, ◌||◌, nat_le, nat_lt, List, [], ◌∷◌, ◌++◌, length, take, map, Option, Some, refl, sym, ap, subst, ◌∙◌, arith}
+use Rattle.std.specs.Prelude.{slice_get}
 use Rattle.std.specs.List.{list_any}
 use Rattle.rl_defs.specs.declared.bundle.Bundle.{Bundle}
 use Rattle.rl_defs.specs.declared.bundle.Numbered.{Numbered}
 use Rattle.rl_defs.specs.declared.bundle.PlanLine.{PlanLine}
 use Rattle.rl_defs.specs.declared.bundle.PlanLine.TheVariants as plan
-use Rattle.rl_defs.specs.Interfaces.{place_of}
-use Rattle.rl_defs.specs.CodeNames.{Declared, imports}
-use Rattle.rl_defs.specs.Domains.{Lines}
+use Rattle.rl_defs.specs.CodeNames.{Declared}
 use Rattle.rl_defs.specs.BundleNames.{given, given_by, names_of, load_given}
-use Rattle.plan_checker.specs.LineScan.{IsLowest, FailsOneOf, lowest_of, given_before, NoneBefore}
-use Rattle.plan_checker.specs.Lookups.{PlanLines, lines_of_load, shadowed, bound_at}
-use Rattle.plan_checker.specs.PlanTests.{is_unbound, has_other_trait, is_bound_backwards, has_native, is_badly_shadowed, is_outside, loads_shadowed, device_given, FailsPlanLine, lowest_at}
+use Rattle.plan_checker.specs.LineScan.{IsLowest, given_before}
+use Rattle.plan_checker.specs.Lookups.{PlanLines, shadowed}
+use Rattle.plan_checker.specs.PlanTests.{is_unbound, has_other_trait, is_bound_backwards, is_badly_shadowed, is_outside, loads_shadowed, device_given, FailsPlanLine, lowest_at}
 use Rattle.plan_checker.proofs.Scanning.{lowest_is, given_more, before_more}
-use Rattle.plan_checker.proofs.Steps.{gives}
 
 lowest_here : (b : Bundle) (k : ℕ) (form : PlanLine) → IsLowest (FailsPlanLine b k form) (lowest_at b (given_before load_given b.plan.lines k) (loads_shadowed (take k b.plan.lines)) (given_before device_given b.plan.lines k) form)
 lowest_here b k (plan.Load name domain) = lowest_is (is_unbound b name domain) 40 (nat_le 64 (given_before load_given b.plan.lines k)) 46 (omega arith)

@@ -1,19 +1,16 @@
 -- The numbers of a bundle's lines rise through its parts.
-use Rattle.std.proofs.Common.{◌≡◌, ℕ, zero, suc, ◌+◌, ◌<◌, ◌≤◌, ◌^◌, List, [], ◌∷◌, ◌++◌, map, length, get_or, Some, refl, sym, ap, subst, ◌∙◌, arith, length-append, All}
+use Rattle.std.proofs.Common.{◌≡◌, ℕ, zero, suc, ◌<◌, ◌≤◌, List, [], ◌∷◌, ◌++◌, map, length, Some, refl, ap, subst, arith, length-append, All}
 use Rattle.std.specs.Prelude.{slice_get}
 use Rattle.std.specs.List.{flat_map}
 use Rattle.rl_defs.specs.declared.idl.Idl.{Idl}
 use Rattle.rl_defs.specs.declared.bundle.Plan.{Plan}
 use Rattle.rl_defs.specs.declared.bundle.Clients.{Clients}
 use Rattle.rl_defs.specs.declared.bundle.Numbered.{Numbered}
-use Rattle.rl_defs.specs.declared.bundle.PlanLine.{PlanLine}
-use Rattle.rl_defs.specs.declared.bundle.ClientLine.{ClientLine}
-use Rattle.rl_defs.specs.declared.code.DomainLine.{DomainLine}
 use Rattle.rl_defs.specs.declared.code.DomainText.{DomainText}
 use Rattle.rl_defs.specs.DomainValue.{Domain}
 use Rattle.rl_defs.specs.Domains.{Lines}
 use Rattle.rl_defs.specs.CodeFits.{IsOneDomain}
-use Rattle.rl_defs.specs.BundleOrder.{numbers_of, line_numbers, Rise, IsDomainText, IsOrdered, bundle_of, text_of}
+use Rattle.rl_defs.specs.BundleOrder.{numbers_of, Rise, IsDomainText, bundle_of, text_of}
 use Rattle.rl_defs.specs.Acceptance.{HasNames}
 use Rattle.rl_defs.proofs.Places.{get_front, get_within}
 use Rattle.plan_checker.specs.LineScan.{LinesRise}

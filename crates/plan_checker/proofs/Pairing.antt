@@ -12,11 +12,10 @@ use Rattle.rl_defs.proofs.Places.{drop_at}
 use Rattle.name_tables.proofs.Placing.{same_name}
 use Rattle.plan_checker.specs.Facts.{AreNames}
 use Rattle.plan_checker.specs.Lookups.{PlanLines, binding, bound_at}
-use Rattle.plan_checker.specs.Tables.{ArePairs, noted_pair, same_pair}
+use Rattle.plan_checker.specs.Tables.{ArePairs, noted_pair}
 use Rattle.plan_checker.proofs.Forms.{no_bind}
 use Rattle.plan_checker.proofs.Placing as placing
-use Rattle.plan_checker.proofs.Steps.{gives, give_step, NamesTo, names_first, names_more, names_none, names_all}
-use Rattle.plan_checker.proofs.Gathering.{Gathers, gather_first, gather_more, gather_none, gather_all}
+use Rattle.plan_checker.proofs.Steps.{gives, NamesTo, names_first, names_more, names_none, names_all}
 
 -- What is kept of pairs as lines are read.
 pub record PairsTo (give beside : PlanLine → List (List ℕ)) (lines : PlanLines) (at : ℕ) (names others : List (List ℕ)) : Type 0 where

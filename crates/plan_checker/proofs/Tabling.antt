@@ -1,28 +1,25 @@
 -- What the look-ups of a plan give.
-use Rattle.std.proofs.Common.{◌≡◌, ℕ, ◌+◌, ◌<◌, ◌≤◌, ◌^◌, Bool, true, false, List, [], ◌∷◌, ◌++◌, length, map, get_or, cond, Option, Some, None, refl, sym, ap, subst, ◌∙◌, arith, length-append, append_assoc}
+use Rattle.std.proofs.Common.{◌≡◌, ℕ, ◌+◌, ◌<◌, ◌^◌, List, [], ◌∷◌, ◌++◌, length, map, get_or, cond, Option, Some, None, refl, sym, ap, subst, ◌∙◌, arith}
 use Rattle.std.specs.Prelude.{slice_get, is_some, IfSome}
 use Rattle.std.specs.List.{flat_map}
 use Rattle.rl_defs.specs.declared.bundle.Bundle.{Bundle}
 use Rattle.rl_defs.specs.declared.bundle.Numbered.{Numbered}
 use Rattle.rl_defs.specs.declared.code.DomainLine.{DomainLine}
 use Rattle.rl_defs.specs.declared.code.DomainLine.TheVariants as line
-use Rattle.rl_defs.specs.declared.code.DomainText.{DomainText}
 use Rattle.rl_defs.specs.DomainValue.{Domain}
 use Rattle.rl_defs.specs.Domains.{Lines}
 use Rattle.rl_defs.specs.DomainParts.{begins_domain, rest_of_domain}
 use Rattle.rl_defs.specs.CodeFits.{IsOneDomain}
 use Rattle.rl_defs.specs.Interfaces.{place_of}
-use Rattle.rl_defs.specs.BundleNames.{Given, given, given_by, names_of, domain_given, domain_names, load_names, domains_loaded, serial_given}
-use Rattle.rl_defs.specs.BundleOrder.{text_of}
+use Rattle.rl_defs.specs.BundleNames.{Given, given, given_by, names_of, domain_given, load_names, domains_loaded, serial_given}
 use Rattle.rl_defs.specs.PlanRules.{load_of_shadow}
 use Rattle.rl_defs.specs.Standing.{shadow_names, target_number, is_serial_in, bound_to}
 use Rattle.plan_checker.specs.Facts.{AreNames}
-use Rattle.plan_checker.specs.Lookups.{PlanLines, plan_bundle, shadowed, bound_at}
-use Rattle.plan_checker.specs.Tables.{ArePairs, bundle_with, text}
-use Rattle.plan_checker.proofs.Gathering.{Gathers, gather_first, gather_more, gather_none, gather_all}
+use Rattle.plan_checker.specs.Lookups.{shadowed, bound_at}
+use Rattle.plan_checker.specs.Tables.{ArePairs}
 use Rattle.plan_checker.proofs.Steps.{gives}
 use Rattle.plan_checker.proofs.Placing.{is_there, place_within}
-use Rattle.plan_checker.proofs.Looking.{shadow_some, shadow_none, number_of_load, number_of_shadow, number_of_none, number_none}
+use Rattle.plan_checker.proofs.Looking.{shadow_some, shadow_none, number_of_shadow, number_of_none, number_none}
 
 -- loads and shadows of a plan, kept as pairs
 abbrev pub Loads : Bundle → List (List ℕ) → List (List ℕ) → Type 0
@@ -91,7 +88,7 @@ domain_name (x ∷ xs) l name has one at form =
     ∙ ap (λ (gs : List Given). name ∷ names_of gs) (rest_none xs one.1)
 
 -- the names that domains give, one domain after the other
-gives_append : (xs ys : Lines) → gives domain_given (xs ++ ys) ≡ gives domain_given xs ++ gives domain_given ys
+pub gives_append : (xs ys : Lines) → gives domain_given (xs ++ ys) ≡ gives domain_given xs ++ gives domain_given ys
 gives_append [] ys = refl
 gives_append (x ∷ xs) ys = over (gives_append xs ys) (domain_given x.form) where
   over : gives domain_given (xs ++ ys) ≡ gives domain_given xs ++ gives domain_given ys → (ns : List (List ℕ)) → names_of (map (given x.line) ns ++ given_by domain_given (xs ++ ys)) ≡ names_of (map (given x.line) ns ++ given_by domain_given xs) ++ gives domain_given ys
@@ -103,38 +100,3 @@ names_in domains = names_of (given_by domain_given (flat_map (λ (x : Domain). x
 
 abbrev pub lines_in : List Domain → List Lines
 lines_in domains = map (λ (x : Domain). x.lines) domains
-
--- What is kept of domains as they are read.
-pub record DomainsTo (domains : List Domain) (at : ℕ) (names : List (List ℕ)) (facts : List Lines) : Type 0 where
-  pub names_are : Gathers names_in domains at names
-  pub facts_are : Gathers lines_in domains at facts
-  pub few : length names ≤ at
-
-pub domains_begin : (domains : List Domain) (names : List (List ℕ)) (facts : List Lines) → names ≡ [] → facts ≡ [] → DomainsTo domains 0 names facts
-domains_begin domains names facts n f = record { names_are = gather_first names_in domains names n; facts_are = gather_first lines_in domains facts f; few = omega (arith, ap length n) }
-
-pub domains_next : (domains : List Domain) (at : ℕ) (d : Domain) (lines : Lines) (n1 n2 : List (List ℕ)) (f1 f2 : List Lines) → DomainsTo domains at n1 f1 → slice_get domains at ≡ Some d → lines ≡ d.lines → n2 ≡ n1 ++ names_of (given_by domain_given lines) → f2 ≡ f1 ++ lines ∷ [] → length n2 ≡ length n1 + 1 → DomainsTo domains (at + 1) n2 f2
-domains_next domains at d lines n1 n2 f1 f2 h here same n f one = record {
-  names_are = gather_more names_in domains at d (gives domain_given d.lines) n1 n2 h.names_are here (λ rest. gives_append d.lines (flat_map (λ (x : Domain). x.lines) rest)) (n ∙ ap (λ (ls : Lines). n1 ++ gives domain_given ls) same);
-  facts_are = gather_more lines_in domains at d (d.lines ∷ []) f1 f2 h.facts_are here (λ rest. refl) (f ∙ ap (λ (ls : Lines). f1 ++ ls ∷ []) same);
-  few = omega (arith, h.few, one);
-}
-
-texts_same : (domains : List Domain) → map text (lines_in domains) ≡ map text_of domains
-texts_same [] = refl
-texts_same (d ∷ ds) = ap (λ (ts : List DomainText). text_of d ∷ ts) (texts_same ds)
-
--- the bundle of domains whose lines were read
-pub bundle_same : (domains : List Domain) (facts : List Lines) (lines : PlanLines) → facts ≡ lines_in domains → bundle_with facts lines ≡ plan_bundle domains lines
-bundle_same domains facts lines is = ap (λ (fs : List Lines). bundle_with fs lines) is ∙ ap (λ (ts : List DomainText). record { idl = record { lines = [] }; domains = ts; plan = record { lines = lines }; clients = record { lines = [] } }) (texts_same domains)
-
-flat_same : (facts : List Lines) → flat_map (λ (t : DomainText). t.lines) (map text facts) ≡ flat_map (λ (ls : Lines). ls) facts
-flat_same [] = refl
-flat_same (d ∷ ds) = ap (λ (ls : Lines). d ++ ls) (flat_same ds)
-
-flat_lines : (domains : List Domain) → flat_map (λ (x : Domain). x.lines) domains ≡ flat_map (λ (ls : Lines). ls) (lines_in domains)
-flat_lines [] = refl
-flat_lines (d ∷ ds) = ap (λ (ls : Lines). d.lines ++ ls) (flat_lines ds)
-
-pub names_same : (domains : List Domain) (facts : List Lines) (lines : PlanLines) (names : List (List ℕ)) → facts ≡ lines_in domains → names ≡ names_in domains → names ≡ domain_names (bundle_with facts lines)
-names_same domains facts lines names is n = n ∙ ap (gives domain_given) (flat_lines domains ∙ ap (flat_map (λ (ls : Lines). ls)) (sym is) ∙ sym (flat_same facts))

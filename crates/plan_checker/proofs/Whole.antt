@@ -1,14 +1,12 @@
 -- What the answers of the parts say of the whole bundle.
-use Rattle.std.proofs.Common.{◌≡◌, ℕ, ◌<◌, ◌≤◌, ◌⊎◌, inl, inr, List, Some, refl, sym, ap, subst, ◌∙◌, arith, lt-ltb}
-use Rattle.std.specs.Prelude.{slice_get, Result, Ok, Err}
-use Rattle.std.proofs.lemmas.Bool.{cases_lt}
+use Rattle.std.proofs.Common.{◌≡◌, ℕ, List, refl, sym, subst}
+use Rattle.std.specs.Prelude.{Result, Ok, Err}
 use Rattle.rl_defs.specs.declared.LoadFault.{LoadFault}
 use Rattle.rl_defs.specs.declared.LoadFault.TheVariants.{Refused, Memory}
 use Rattle.rl_defs.specs.declared.idl.Idl.{Idl}
 use Rattle.rl_defs.specs.declared.bundle.Plan.{Plan}
 use Rattle.rl_defs.specs.declared.bundle.Clients.{Clients}
 use Rattle.rl_defs.specs.declared.bundle.Bundle.{Bundle}
-use Rattle.rl_defs.specs.declared.bundle.PlanLine.TheVariants as plan
 use Rattle.rl_defs.specs.DomainValue.{Domain}
 use Rattle.rl_defs.specs.BundleNames.{ClientLines}
 use Rattle.rl_defs.specs.BundleOrder.{bundle_of}
@@ -16,13 +14,9 @@ use Rattle.rl_defs.specs.Refusals.{IsFirst, Nowhere, Answers}
 use Rattle.rl_defs.specs.PlanRules.{FailsPlanRules}
 use Rattle.plan_checker.specs.declared.rows.PlanRows.{PlanRows}
 use Rattle.plan_checker.specs.Facts.{HasLoadNames}
-use Rattle.plan_checker.specs.LineScan.{FailsIn}
-use Rattle.plan_checker.specs.Limits.{FailsDomains, FailsClientLine}
 use Rattle.plan_checker.specs.Lookups.{PlanLines, plan_bundle}
-use Rattle.plan_checker.specs.PlanTests.{FailsPlanLine, is_outside}
 use Rattle.plan_checker.specs.Parts.{FailsParts, PartsRise}
 use Rattle.plan_checker.specs.Rows.{AreRowsOf, AnswersParts}
-use Rattle.plan_checker.proofs.Members.{or_second}
 use Rattle.plan_checker.proofs.ToParts.{to_parts}
 use Rattle.plan_checker.proofs.FromParts.{from_parts}
 

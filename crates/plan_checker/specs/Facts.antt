@@ -1,9 +1,9 @@
 -- What is kept of a domain.
-use Rattle.std.specs.Prelude.{◌≡◌, ℕ, Bool, List, [], ◌∷◌, map, IsTrue, slice_get, Some}
+use Rattle.std.specs.Prelude.{◌≡◌, ℕ, Bool, List, map, IsTrue, slice_get, Some}
 use Rattle.rl_defs.specs.Words.{is_name}
 use Rattle.rl_defs.specs.Domains.{Lines, trait_name, is_native}
 use Rattle.rl_defs.specs.CodeNames.{imports}
-use Rattle.rl_defs.specs.BundleNames.{given_by, names_of, domain_given, load_given}
+use Rattle.rl_defs.specs.BundleNames.{given_by, names_of, load_given}
 use Rattle.plan_checker.specs.Lookups.{PlanLines, binding}
 
 abbrev pub import_names : Lines → List (List ℕ)
@@ -12,9 +12,8 @@ import_names lines = map (λ d. d.name) (imports lines)
 abbrev pub import_traits : Lines → List (List ℕ)
 import_traits lines = map (λ d. d.ty) (imports lines)
 
--- its name and its trait, the names of its imports with their traits, and whether it is native
-pub record AreFacts (lines : Lines) (name has : List ℕ) (places names traits : List (List ℕ)) (native : Bool) : Type 0 where
-  pub name_is : names_of (given_by domain_given lines) ≡ name ∷ []
+-- its trait, the names of its imports with their traits, and whether it is native
+pub record AreFacts (lines : Lines) (has : List ℕ) (places names traits : List (List ℕ)) (native : Bool) : Type 0 where
   pub trait_is : trait_name lines ≡ has
   pub trait_named : IsTrue (is_name has)
   pub places_are : places ≡ import_names lines

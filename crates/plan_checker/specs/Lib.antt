@@ -3,6 +3,7 @@ pub mod Limits
 pub mod Lookups
 pub mod PlanTests
 pub mod Facts
+pub mod Loaded
 pub mod Tables
 pub mod Rows
 pub mod Parts

@@ -1,16 +1,14 @@
 -- What names of the plan lead to.
-use Rattle.std.specs.Prelude.{ℕ, Bool, true, false, ◌&&◌, ◌||◌, ◌==◌, not, nat_eq, nat_le, nat_lt, is_some, is_none, List, [], ◌∷◌, map, take, Option, Some, None, slice_get}
-use Rattle.std.specs.List.{flat_map, list_any}
-use Rattle.std.specs.Cmp.Lexicographic.{pointwise}
+use Rattle.std.specs.Prelude.{ℕ, List, [], ◌∷◌, map, Option, Some, None, slice_get}
+use Rattle.std.specs.List.{flat_map}
 use Rattle.rl_defs.specs.declared.bundle.Numbered.{Numbered}
 use Rattle.rl_defs.specs.declared.bundle.PlanLine.{PlanLine}
 use Rattle.rl_defs.specs.declared.bundle.PlanLine.TheVariants as plan
 use Rattle.rl_defs.specs.declared.bundle.Bundle.{Bundle}
 use Rattle.rl_defs.specs.DomainValue.{Domain}
 use Rattle.rl_defs.specs.Interfaces.{place_of}
-use Rattle.rl_defs.specs.Domains.{Lines, trait_name, is_native}
-use Rattle.rl_defs.specs.CodeNames.{imports, place_in, type_at}
-use Rattle.rl_defs.specs.BundleNames.{given_by, names_of, load_names, domain_of_load, lines_of_domain}
+use Rattle.rl_defs.specs.Domains.{Lines}
+use Rattle.rl_defs.specs.BundleNames.{load_names, domain_of_load, lines_of_domain}
 use Rattle.rl_defs.specs.BundleOrder.{text_of}
 use Rattle.rl_defs.specs.PlanRules.{load_of_target}
 use Rattle.rl_defs.specs.Standing.{bound_in}

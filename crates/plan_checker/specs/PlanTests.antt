@@ -1,5 +1,5 @@
 -- The rules 40 to 46 at one line of the plan, as tests.
-use Rattle.std.specs.Prelude.{◌≡◌, ℕ, Bool, true, false, ◌||◌, not, nat_eq, nat_le, nat_lt, is_some, is_none, List, [], ◌∷◌, take, Option, Some, None}
+use Rattle.std.specs.Prelude.{ℕ, Bool, false, ◌||◌, not, nat_eq, nat_le, nat_lt, is_some, is_none, List, [], ◌∷◌, take, Option, Some, None}
 use Rattle.std.specs.List.{list_any}
 use Rattle.std.specs.Cmp.Lexicographic.{pointwise}
 use Rattle.rl_defs.specs.declared.bundle.PlanLine.{PlanLine}

@@ -13,7 +13,6 @@ use Rattle.rl_defs.specs.Refusals.{Nowhere, IsFirst}
 use Rattle.plan_checker.specs.Facts.{HasLoadNames}
 use Rattle.plan_checker.specs.Parts.{FailsParts}
 use Rattle.plan_checker.specs.Lookups.{PlanLines, plan_bundle}
-use Rattle.plan_checker.specs.PlanTests.{is_outside}
 
 -- the rows are those that the plan of this bundle stands for
 pub record AreRowsOf (b : Bundle) (rows : PlanRows) : Type 0 where

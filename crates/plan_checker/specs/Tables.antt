@@ -1,21 +1,14 @@
 -- What is kept of the names of a plan.
-use Rattle.std.specs.Prelude.{◌≡◌, ℕ, ◌<◌, ◌^◌, ◌&&◌, Bool, nat_eq, List, [], map, length, Option, Some, None, is_some, if◌then◌else◌}
+use Rattle.std.specs.Prelude.{◌≡◌, ℕ, ◌<◌, ◌^◌, ◌&&◌, Bool, nat_eq, List, length, Option, Some, None, is_some, if◌then◌else◌}
 use Rattle.rl_defs.specs.Words.{same_bytes}
 use Rattle.std.specs.Cmp.Lexicographic.{pointwise}
 use Rattle.rl_defs.specs.declared.bundle.Bundle.{Bundle}
-use Rattle.rl_defs.specs.declared.code.DomainText.{DomainText}
 use Rattle.rl_defs.specs.Domains.{Lines}
-use Rattle.rl_defs.specs.BundleNames.{given_by, names_of, domain_names, load_names, load_given, domains_loaded, serial_given}
-use Rattle.rl_defs.specs.Standing.{shadow_given, shadow_names}
+use Rattle.rl_defs.specs.BundleNames.{given_by, names_of, load_names, domains_loaded, serial_given}
+use Rattle.rl_defs.specs.Standing.{shadow_names}
 use Rattle.plan_checker.specs.Facts.{AreNames}
-use Rattle.plan_checker.specs.Lookups.{PlanLines, shadowed, binding, bound_at}
-
-abbrev pub text : Lines → DomainText
-text lines = record { lines = lines }
-
--- the bundle of domains with these lines and of this plan, without interfaces and clients
-abbrev pub bundle_with : List Lines → PlanLines → Bundle
-bundle_with domains lines = record { idl = record { lines = [] }; domains = map text domains; plan = record { lines = lines }; clients = record { lines = [] } }
+use Rattle.plan_checker.specs.Loaded.{AreLoaded}
+use Rattle.plan_checker.specs.Lookups.{shadowed, binding, bound_at}
 
 -- two pairs of names are the same
 abbrev pub same_pair : (List ℕ) × (List ℕ) → (List ℕ) × (List ℕ) → Bool
@@ -29,8 +22,8 @@ pub record ArePairs (names others all_names all_others : List (List ℕ)) : Type
   pub few : length names < 2 ^ 31
 
 -- the look-ups of a plan
-pub record AreTables (b : Bundle) (names loads load_domains shadows shadow_loads serial : List (List ℕ)) (bound : List ℕ → List ℕ → Option (List ℕ)) : Type 0 where
-  pub domains_are : names ≡ domain_names b
+pub record AreTables (b : Bundle) (names : List (List ℕ)) (numbers : List ℕ) (facts : List Lines) (loads load_domains shadows shadow_loads serial : List (List ℕ)) (bound : List ℕ → List ℕ → Option (List ℕ)) : Type 0 where
+  pub domains_are : AreLoaded b names numbers facts
   pub loads_are : ArePairs loads load_domains (load_names b) (names_of (given_by domains_loaded b.plan.lines))
   pub shadows_are : ArePairs shadows shadow_loads (shadow_names b) (names_of (given_by shadowed b.plan.lines))
   pub serial_are : serial ≡ names_of (given_by serial_given b.plan.lines)

@@ -31,7 +31,6 @@ struct Imports {
 #[derive(Drop)]
 pub struct DomainFacts<'a> {
     lines: &'a [Numbered<DomainLine>],
-    name: Name,
     has: Name,
     imports: Imports,
     native: bool,
@@ -45,17 +44,18 @@ impl<'a> Model for DomainFacts<'a> {
 
     ghost view = { λ d. d.lines.now };
 
-    ghost invariant = { λ d. AreFacts d.lines.now d.name d.has d.imports.places d.imports.names d.imports.traits d.native };
+    ghost invariant = { λ d. AreFacts d.lines.now d.has d.imports.places d.imports.names d.imports.traits d.native };
 }
 
-// The names of a domain and of its trait, which its first line gives.
+/// The names of a domain and of its trait, which its first line gives.
 #[derive(Clone, Copy)]
-struct Begin {
-    name: Name,
-    has: Name,
+pub struct Begin {
+    pub name: Name,
+    pub has: Name,
 }
 
-fn head(domain: &CheckedDomain) -> Begin
+/// The names that a domain begins with.
+pub fn head(domain: &CheckedDomain) -> Begin
     ensures name { names_of (given_by domain_given domain.now.lines) ≡ result.name ∷ [] }
     ensures has { trait_name domain.now.lines ≡ result.has }
     ensures named { IsTrue (is_name result.has) }
@@ -124,18 +124,10 @@ impl<'a> DomainFacts<'a> {
         let imports = imports_of(alloc, lines)?;
         Ok(DomainFacts {
             lines,
-            name: head.name,
             has: head.has,
             imports,
             native: is_native(lines),
         })
-    }
-
-    /// The name of the domain.
-    pub fn name(&self) -> &Name
-        ensures { names_of (given_by domain_given self.now) ≡ result.now ∷ [] }
-    {
-        &self.name
     }
 
     /// The names of the imports, in the order of the text.

@@ -89,6 +89,20 @@ pub fn serial_of(alloc: Global, lines: &[Numbered<PlanLine>]) -> Result<Names, M
     Ok(names)
 }
 
+/// The names of the domains that the plan loads, load by load.
+pub fn loaded_of(alloc: Global, lines: &[Numbered<PlanLine>]) -> Result<Names, Memory>
+    requires { length lines.now < 2 ^ 31 }
+    ensures { IfOk result (λ n. n ≡ names_of (given_by domains_loaded lines.now)) }
+{
+    let mut names = Names::new(alloc);
+    'lines: for line in lines {
+        if let PlanLine::Load { domain, .. } = &line.form {
+            names.add(domain)?;
+        }
+    }
+    Ok(names)
+}
+
 // Notes what is bound to an import, unless something is bound to it.
 fn bind(binds: &mut Binds, load: &Name, import: &Name, target: &Name) -> Result<(), Memory>
     ensures noted { OnOk result ((q : Items ℕ) (r : Items ℕ) → get same_pair binds.new (q, r) ≡ noted_pair (get same_pair binds.old (q, r)) load.now import.now target.now q r) }

@@ -4,6 +4,7 @@ ghost use Rattle.std.specs.List.{flat_map, slice_index_or};
 ghost use Rattle.rl_defs.specs.BundleNames.{given_by, names_of, client_given, lines_of_domain};
 ghost use Rattle.rl_defs.specs.Standing.{loads_in, shadows_in, number_in, fuel_in, device_in, blocks_in, binds_of, target_number, bound_to};
 ghost use Rattle.rl_defs.specs.declared.bundle.PlanLine.TheVariants as plan;
+ghost use Rattle.plan_checker.specs.Loaded.{IsLoaded};
 ghost use Rattle.plan_checker.specs.Rows.{AreRowsOf, AreWithin, order_with};
 
 use crate::tables::PlanTables;
@@ -62,6 +63,7 @@ fn binds_of_load(
     load: &Name,
     domain: &Name,
 ) -> Result<List<u32>, Memory>
+    requires { IsLoaded tables.now domain.now }
     ensures { IfOk result (λ binds. binds ≡ binds_of tables.now load.now (lines_of_domain tables.now domain.now)) }
 {
     match tables.domain(domain) {
@@ -76,6 +78,7 @@ fn load_row(
     name: &Name,
     domain: &Name,
 ) -> Result<LoadRow, Memory>
+    requires { IsLoaded tables.now domain.now }
     ensures { IfOk result (λ row. row ∷ [] ≡ loads_in tables.now (plan.Load name.now domain.now)) }
 {
     let binds = binds_of_load(alloc, tables, name, domain)?;
@@ -92,6 +95,7 @@ fn load_rows(
     tables: &PlanTables,
     lines: &[Numbered<PlanLine>],
 ) -> Result<List<LoadRow>, Memory>
+    requires { lines.now ≡ tables.now.plan.lines }
     ensures { IfOk result (λ rows. rows ≡ flat_map (λ l. loads_in tables.now l.form) lines.now) }
 {
     let mut rows = List::new(alloc);

@@ -4,6 +4,7 @@ ghost use Rattle.std.specs.List.{list_any};
 ghost use Rattle.rl_defs.specs.Interfaces.{place_of};
 ghost use Rattle.rl_defs.specs.BundleNames.{load_given, lines_of_domain};
 ghost use Rattle.plan_checker.specs.LineScan.{lowest_of, IsSmallStep};
+ghost use Rattle.plan_checker.specs.Loaded.{IsLoaded, LoadsLoaded};
 ghost use Rattle.plan_checker.specs.Lookups.{lines_of_load, shadowed, bound_at};
 ghost use Rattle.plan_checker.specs.PlanTests.{is_unbound, has_other_trait, is_bound_backwards, has_native, is_outside, device_given, lowest_at};
 
@@ -82,6 +83,7 @@ fn lowest_of(first: bool, low: u8, second: bool, high: u8) -> Option<u8>
 
 // Whether an import of a domain isn't bound for this load.
 fn is_unbound(tables: &PlanTables, load: &Name, domain: &Name) -> bool
+    requires { IsLoaded tables.now domain.now }
     ensures { result ≡ is_unbound tables.now load.now domain.now }
 {
     match tables.domain(domain) {
@@ -143,8 +145,9 @@ fn is_outside(least: u64, most: u64, number: u64) -> bool
     number < least || number > most
 }
 
-/// The lowest rule that a line fails, where the lines before it give what was seen.
+/// The lowest rule that a line of the plan fails, where the lines before it give what was seen.
 pub fn rule_of(tables: &PlanTables, seen: &Seen, form: &PlanLine) -> Option<u8>
+    requires { LoadsLoaded tables.now form.now }
     ensures { result ≡ lowest_at tables.now seen.now.loads seen.now.shadowed seen.now.devices form.now }
 {
     match form {

@@ -4,14 +4,15 @@ ghost use Rattle.std.specs.Option.{option_copied};
 ghost use Rattle.std.specs.List.{flat_map};
 ghost use Rattle.rl_defs.specs.Interfaces.{place_of};
 ghost use Rattle.rl_defs.specs.DomainValue.{Domain};
-ghost use Rattle.rl_defs.specs.BundleNames.{given_by, names_of, domain_given, domain_names, load_names, lines_of_domain, domain_of_load};
+ghost use Rattle.rl_defs.specs.BundleNames.{given_by, names_of, domain_names, domains_loaded, load_names, lines_of_domain, domain_of_load};
 ghost use Rattle.rl_defs.specs.PlanRules.{load_of_target, load_of_shadow};
 ghost use Rattle.rl_defs.specs.Standing.{load_number, target_number, is_serial_in, bound_to};
 ghost use Rattle.plan_checker.specs.Facts.{HasLoadNames};
-ghost use Rattle.plan_checker.specs.Lookups.{plan_bundle, lines_of_load, lines_of_target, place_of_target, bound_at};
+ghost use Rattle.plan_checker.specs.Loaded.{IsLoaded, AreLoaded, IsPut};
+ghost use Rattle.plan_checker.specs.Lookups.{PlanLines, plan_bundle, lines_of_load, lines_of_target, place_of_target, bound_at};
 
-use crate::facts::DomainFacts;
-use crate::pairs::{Binds, Pairs, binds_of, loads_of, serial_of, shadows_of};
+use crate::facts::{DomainFacts, head};
+use crate::pairs::{Binds, Pairs, binds_of, loaded_of, loads_of, serial_of, shadows_of};
 use name_tables::names::Names;
 use rl_defs::Memory;
 use rl_defs::bundle::{Numbered, PlanLine};
@@ -21,10 +22,12 @@ use rl_defs::name::Name;
 use std::alloc::Global;
 use std::marker::Model;
 
-// The domains by their names, with what the plan looks at in each.
+// The domains that the plan loads, by their names: the number of each among all domains, and what the plan looks at in it. A bundle may
+// have many domains that no load names, and nothing is kept of them.
 #[derive(Drop)]
 struct Domains<'a> {
     names: Names,
+    numbers: List<u32>,
     facts: List<DomainFacts<'a>>,
 }
 
@@ -32,6 +35,7 @@ struct Domains<'a> {
 #[derive(Drop)]
 pub struct PlanTables<'a> {
     lines: &'a [Numbered<PlanLine>],
+    all: &'a [CheckedDomain],
     domains: Domains<'a>,
     loads: Pairs,
     shadows: Pairs,
@@ -42,37 +46,54 @@ pub struct PlanTables<'a> {
 impl<'a> Model for PlanTables<'a> {
     ghost use Rattle.rl_defs.specs.declared.bundle.Bundle.{Bundle};
     ghost use Rattle.indexmap.specs.IndexMap.{get};
-    ghost use Rattle.plan_checker.specs.Tables.{AreTables, bundle_with, same_pair};
+    ghost use Rattle.plan_checker.specs.Lookups.{plan_bundle};
+    ghost use Rattle.plan_checker.specs.Tables.{AreTables, same_pair};
 
     ghost Value = { Bundle };
 
-    ghost view = { λ t. bundle_with t.domains.facts t.lines.now };
+    ghost view = { λ t. plan_bundle t.all.now t.lines.now };
 
-    ghost invariant = { λ t. AreTables (bundle_with t.domains.facts t.lines.now) t.domains.names t.loads.names t.loads.others t.shadows.names t.shadows.others t.serial (λ q r. get same_pair t.binds (q, r)) };
+    ghost invariant = { λ t. AreTables (plan_bundle t.all.now t.lines.now) t.domains.names t.domains.numbers t.domains.facts t.loads.names t.loads.others t.shadows.names t.shadows.others t.serial (λ q r. get same_pair t.binds (q, r)) };
 }
 
-fn put<'a>(domains: &mut Domains<'a>, facts: DomainFacts<'a>) -> Result<(), Memory>
+// Puts a domain last, with its number, if it is among those that are loaded.
+fn put<'a>(
+    alloc: Global,
+    domains: &mut Domains<'a>,
+    loaded: &Names,
+    number: u32,
+    domain: &'a CheckedDomain,
+) -> Result<(), Memory>
     requires { length domains.old.names < 2 ^ 31 }
-    ensures names { OnOk result (domains.new.names ≡ domains.old.names ++ names_of (given_by domain_given facts.entry)) }
-    ensures facts { OnOk result (domains.new.facts ≡ domains.old.facts ++ facts.entry ∷ []) }
-    ensures more { OnOk result (length domains.new.names ≡ length domains.old.names + 1) }
+    ensures { OnOk result (IsPut loaded.now domain.now.lines number domains.old.names domains.new.names domains.old.numbers domains.new.numbers domains.old.facts domains.new.facts) }
 {
-    domains.names.add(facts.name())?;
-    domains.facts.push(facts)
+    let head = head(domain);
+    if loaded.place(&head.name).is_none() {
+        return Ok(());
+    }
+    let facts = DomainFacts::new(alloc, domain)?;
+    domains.names.add(&head.name)?;
+    domains.numbers.push(number)?;
+    domains.facts.push(facts)?;
+    Ok(())
 }
 
-fn domains_of<'a>(alloc: Global, domains: &'a [CheckedDomain]) -> Result<Domains<'a>, Memory>
+// The domains whose names are among those that are loaded.
+fn domains_of<'a>(
+    alloc: Global,
+    loaded: &Names,
+    domains: &'a [CheckedDomain],
+) -> Result<Domains<'a>, Memory>
     requires { length domains.now < 2 ^ 31 }
-    ensures names { IfOk result (λ d. d.names ≡ names_of (given_by domain_given (flat_map (λ x. x.lines) domains.now))) }
-    ensures facts { IfOk result (λ d. d.facts ≡ map (λ x. x.lines) domains.now) }
+    ensures { IfOk result (λ d. (lines : PlanLines) → loaded.now ≡ names_of (given_by domains_loaded lines) → AreLoaded (plan_bundle domains.now lines) d.names d.numbers d.facts) }
 {
     let mut all = Domains {
         names: Names::new(alloc),
+        numbers: List::new(alloc),
         facts: List::new(alloc),
     };
-    'domains: for domain in domains {
-        let facts = DomainFacts::new(alloc, domain)?;
-        put(&mut all, facts)?;
+    'domains: for (number, domain) in domains.iter().enumerate() {
+        put(alloc, &mut all, loaded, number as u32, domain)?;
     }
     Ok(all)
 }
@@ -89,13 +110,16 @@ impl<'a> PlanTables<'a> {
         ensures value { IfOk result (λ t. t ≡ plan_bundle domains.now lines.now) }
         ensures names { IfOk result (λ _. HasLoadNames lines.now) }
     {
-        let domains = domains_of(alloc, domains)?;
+        let all = domains;
+        let loaded = loaded_of(alloc, lines)?;
+        let domains = domains_of(alloc, &loaded, all)?;
         let loads = loads_of(alloc, lines)?;
         let shadows = shadows_of(alloc, lines)?;
         let serial = serial_of(alloc, lines)?;
         let binds = binds_of(alloc, lines)?;
         Ok(PlanTables {
             lines,
+            all,
             domains,
             loads,
             shadows,
@@ -111,18 +135,23 @@ impl<'a> PlanTables<'a> {
         self.lines
     }
 
-    /// The number of a domain, from 0.
+    /// The number of a domain that is loaded, from 0.
     pub fn domain_place(&self, name: &Name) -> Option<u32>
+        requires { IsLoaded self.now name.now }
         ensures { result ≡ place_of name.now (domain_names self.now) }
     {
-        self.domains.names.place(name)
+        match self.domains.names.place(name) {
+            Some(place) => self.domains.numbers.get(place as usize).copied(),
+            None => None,
+        }
     }
 
-    /// The domain of this name.
+    /// The domain of this name, which is loaded.
     pub fn domain(&self, name: &Name) -> Option<&DomainFacts<'a>>
+        requires { IsLoaded self.now name.now }
         ensures { option_copied result ≡ lines_of_domain self.now name.now }
     {
-        match self.domain_place(name) {
+        match self.domains.names.place(name) {
             Some(place) => self.domains.facts.get(place as usize),
             None => None,
         }

@@ -26,12 +26,13 @@ pub struct Targets {
     pub traits: List<u32>,
 }
 
-fn nothing(alloc: Global) -> Targets
+// None yet, and room for the names of so many.
+fn room_for(alloc: Global, count: usize) -> Targets
     ensures names { result.names ≡ [] }
     ensures traits { result.traits ≡ [] }
 {
     Targets {
-        names: Names::new(alloc),
+        names: Names::with_room(alloc, count),
         traits: List::new(alloc),
     }
 }
@@ -97,7 +98,7 @@ fn domains_of(alloc: Global, traits: &Names, domains: &[CheckedDomain]) -> Resul
     ensures names { IfOk result (λ t. t.names ≡ names_of (given_by domain_given (all_lines (map text_of domains.now)))) }
     ensures traits { IfOk result (λ t. t.traits ≡ map (λ d. number_of (trait_name d.lines) traits.now) (map text_of domains.now)) }
 {
-    let mut targets = nothing(alloc);
+    let mut targets = room_for(alloc, domains.len());
     'each: for domain in domains {
         put_domain(&mut targets, traits, domain.lines())?;
     }
@@ -129,7 +130,7 @@ fn loads_among(alloc: Global, domains: &Targets, plan: &Plan) -> Result<Targets,
     ensures names { IfOk result (λ t. t.names ≡ names_of (given_by load_given plan.now.lines)) }
     ensures traits { IfOk result (λ t. t.traits ≡ map (λ d. number_at domains.now.traits (place_of d domains.now.names)) (names_of (given_by domains_loaded plan.now.lines))) }
 {
-    let mut loads = nothing(alloc);
+    let mut loads = room_for(alloc, 0);
     let lines = plan.lines.as_slice();
     'each: for line in lines {
         put_load(&mut loads, domains, &line.form)?;
@@ -156,7 +157,7 @@ pub fn shadows_of(alloc: Global, loads: &Targets, plan: &Plan) -> Result<Targets
     ensures names { IfOk result (λ t. t.names ≡ names_of (given_by shadow_given plan.now.lines)) }
     ensures traits { IfOk result (λ t. t.traits ≡ map (λ d. number_at loads.now.traits (place_of d loads.now.names)) (names_of (given_by shadows_loaded plan.now.lines))) }
 {
-    let mut shadows = nothing(alloc);
+    let mut shadows = room_for(alloc, 0);
     let lines = plan.lines.as_slice();
     'each: for line in lines {
         put_shadow(&mut shadows, loads, &line.form)?;

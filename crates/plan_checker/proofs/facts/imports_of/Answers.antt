@@ -1,4 +1,4 @@
-use Rattle.std.proofs.Common.{◌≡◌, Some, length, refl, ap, arith, slice_get}
+use Rattle.std.proofs.Common.{◌≡◌, Some, length, refl, arith, slice_get}
 use Rattle.std.proofs.lemmas.Option.{slice_get_read}
 use Rattle.plan_checker.specs.Facts.{import_names, import_traits}
 use Rattle.plan_checker.proofs.Gathering.{gather_all}

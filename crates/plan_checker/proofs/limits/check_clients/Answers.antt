@@ -1,6 +1,5 @@
-use Rattle.std.proofs.Common.{◌≡◌, ℕ, Bool, Option, Some, length, refl, sym, ap, ◌∙◌, arith, slice_get}
+use Rattle.std.proofs.Common.{◌≡◌, ℕ, Bool, Option, Some, length, refl, ap, ◌∙◌, arith, slice_get}
 use Rattle.std.proofs.lemmas.Option.{slice_get_read}
-use Rattle.rl_defs.specs.declared.bundle.Numbered.{Numbered}
 use Rattle.rl_defs.specs.declared.bundle.ClientLine.{ClientLine}
 use Rattle.rl_defs.specs.BundleNames.{ClientLines, client_given}
 use Rattle.rl_defs.proofs.FirstRefusal.{refuses}

@@ -1,4 +1,4 @@
-use Rattle.std.proofs.Common.{◌≡◌, Some, length, refl, ap, arith, slice_get}
+use Rattle.std.proofs.Common.{◌≡◌, Some, length, refl, arith, slice_get}
 use Rattle.std.proofs.lemmas.Option.{slice_get_read}
 use Rattle.plan_checker.proofs.Counting.{domains_first, domains_all, domain_answers, domain_passes}
 use Rattle.plan_checker.proofs.limits.check_domains.Goals as goal

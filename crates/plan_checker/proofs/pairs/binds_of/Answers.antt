@@ -1,8 +1,8 @@
-use Rattle.std.proofs.Common.{◌≡◌, Some, length, refl, ap, arith, slice_get}
+use Rattle.std.proofs.Common.{◌≡◌, Some, length, refl, arith, slice_get}
 use Rattle.std.proofs.lemmas.Option.{slice_get_read}
 use Rattle.indexmap.specs.IndexMap.{get}
 use Rattle.plan_checker.specs.Tables.{same_pair}
-use Rattle.plan_checker.proofs.Pairing.{binds_first, binds_more, binds_none, binds_bound, binds_named}
+use Rattle.plan_checker.proofs.Pairing.{binds_more, binds_none, binds_bound, binds_named}
 use Rattle.plan_checker.proofs.pairs.binds_of.Goals as goal
 use Rattle.plan_checker.proofs.pairs.binds_of.Goals.{in-Bind+in_ok-bind, in_default}
 

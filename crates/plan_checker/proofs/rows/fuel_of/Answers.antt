@@ -1,4 +1,4 @@
-use Rattle.std.proofs.Common.{◌≡◌, ℕ, List, [], ◌∷◌, Some, length, refl, ap, arith, slice_get}
+use Rattle.std.proofs.Common.{◌≡◌, [], ◌∷◌, Some, length, refl, ap, arith, slice_get}
 use Rattle.std.specs.List.{flat_map}
 use Rattle.std.proofs.lemmas.Option.{slice_get_read}
 use Rattle.rl_defs.specs.declared.bundle.Numbered.{Numbered}

@@ -1,4 +1,4 @@
-use Rattle.std.proofs.Common.{◌≡◌, ℕ, Option, Some, None, length, refl, sym, ap, subst, ◌∙◌, arith, slice_get}
+use Rattle.std.proofs.Common.{◌≡◌, ℕ, Option, Some, length, refl, ap, subst, arith, slice_get}
 use Rattle.std.proofs.lemmas.Option.{slice_get_read}
 use Rattle.rl_defs.proofs.FirstRefusal.{refuses}
 use Rattle.plan_checker.specs.LineScan.{FailsIn, IsLowest}
@@ -6,6 +6,7 @@ use Rattle.plan_checker.specs.Lookups.{PlanLines}
 use Rattle.plan_checker.specs.PlanTests.{FailsPlanLine}
 use Rattle.plan_checker.proofs.Scanning.{none_first, none_more, none_all, found_first}
 use Rattle.plan_checker.proofs.Lowest.{seen_first, seen_more, lowest_seen}
+use Rattle.plan_checker.proofs.Keeping.{loads_loaded}
 use Rattle.plan_checker.proofs.scan.check_lines.Goals as goal
 
 pub lines-init : goal.lines-init
@@ -13,6 +14,11 @@ lines-init c = record {
   none = none_first c.args.tables.now.plan.lines (FailsPlanLine c.args.tables.now);
   seen = seen_first c.args.tables.now.plan.lines c.new-seen.result.loads c.new-seen.result.shadowed c.new-seen.result.devices c.new-seen.ensures.loads c.new-seen.ensures.shadowed c.new-seen.ensures.devices;
 }
+
+pub rule_of-requires : goal.rule_of-requires
+rule_of-requires c =
+    let there : slice_get c.lines-lines.result.now c.lines.line-index ≡ Some c.line-item.result = slice_get_read c.lines-lines.result.now (length c.lines-lines.result.now) c.lines.line-index c.line-item.result refl c.lines-test.true c.line-item.is in
+    loads_loaded c.args.tables.now c.lines.line-index c.line-item.result (subst (λ (ls : PlanLines). slice_get ls c.lines.line-index ≡ Some c.line-item.result) c.lines-lines.ensures there)
 
 pub lines-preserved : goal.lines-preserved
 lines-preserved c =

@@ -1,6 +1,5 @@
 use Rattle.std.proofs.Common.{sym, ap, ◌∙◌}
 use Rattle.std.specs.Option.{option_copied}
-use Rattle.plan_checker.proofs.Looking.{number_some}
 use Rattle.plan_checker.proofs.Tabling.{number_unbound}
 use Rattle.plan_checker.proofs.tables.PlanTables.number_bound.Goals as goal
 
