@@ -1,5 +1,5 @@
 -- The domains of a part that no rule refuses: each has the lines of one domain, in order, numbered upwards.
-use Rattle.std.proofs.Common.{◌≡◌, ℕ, zero, suc, ◌+◌, ◌<◌, ◌≤◌, ◌⊎◌, inl, inr, Bool, true, false, List, [], ◌∷◌, length, Option, Some, None, refl, sym, ap, subst, ◌∙◌, arith}
+use Rattle.std.proofs.Common.{◌≡◌, ℕ, zero, suc, ◌+◌, ◌<◌, ◌≤◌, ◌⊎◌, inl, inr, Bool, true, false, List, [], ◌∷◌, length, Option, Some, refl, sym, ap, subst, ◌∙◌, arith}
 use Rattle.std.specs.Prelude.{slice_get, fold, All, if◌then◌else◌}
 use Rattle.std.proofs.lemmas.List.Elements.{All-nil, All-cons}
 use Rattle.rl_defs.specs.declared.bundle.Numbered.{Numbered}
@@ -7,10 +7,9 @@ use Rattle.rl_defs.specs.declared.code.DomainLine.{DomainLine}
 use Rattle.rl_defs.specs.declared.code.DomainLine.TheVariants as line
 use Rattle.rl_defs.specs.declared.code.DomainText.{DomainText}
 use Rattle.rl_defs.specs.Domains.{Lines}
-use Rattle.rl_defs.specs.Refusals.{Nowhere}
-use Rattle.rl_defs.specs.Parts.{Grammar, StandFor, numbered, next_open, block_behind, forms_of}
-use Rattle.rl_defs.specs.DomainParts.{Block, Outside, Declares, BehindFunction, InFunction, BehindEnd, next_block, domain_part, begins_domain, rest_of_domain, domains_of, FailsDomains, AreDomains}
-use Rattle.rl_defs.specs.CodeFits.{IsOneDomain, LinesRise}
+use Rattle.rl_defs.specs.Parts.{StandFor, numbered, next_open, block_behind, forms_of}
+use Rattle.rl_defs.specs.DomainParts.{Block, Outside, Declares, BehindFunction, InFunction, BehindEnd, next_block, domain_part, begins_domain, rest_of_domain, domains_of}
+use Rattle.rl_defs.specs.CodeFits.{LinesRise}
 use Rattle.domain_code.specs.Laws.{StandsAlone, EachStandsAlone}
 use Rattle.domain_code.proofs.DomainLaws.{domain_forms}
 use Rattle.domain_code.proofs.OrderLaws.{next_is, nowhere_ordered}

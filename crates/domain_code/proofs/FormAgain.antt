@@ -1,5 +1,5 @@
 -- Lines: what is spelled so is read.
-use Rattle.std.proofs.Common.{◌≡◌, ℕ, List, [], ◌∷◌, ◌++◌, Option, Some, None, true, false, refl, sym, ap, ◌∙◌, append_assoc}
+use Rattle.std.proofs.Common.{◌≡◌, ℕ, List, [], ◌∷◌, ◌++◌, Some, None, false, refl, ap, ◌∙◌, append_assoc}
 use Rattle.std.specs.Prelude.{codes}
 use Rattle.rl_defs.specs.declared.code.Register.{Register}
 use Rattle.rl_defs.specs.declared.code.CallArg.{CallArg}
@@ -17,8 +17,8 @@ use Rattle.rl_defs.specs.declared.lexeme.Mark.{Mark}
 use Rattle.rl_defs.specs.declared.lexeme.Mark.TheVariants as m
 use Rattle.rl_defs.specs.Tokens.{Token, Name, Reserved, Number, Sign}
 use Rattle.rl_defs.specs.IdlForms.{spell_more}
-use Rattle.rl_defs.specs.DomainForms.{spell_register, spell_one, spell_some, two, three, spell_arg, spell_results, spell_head, spell_native, spell_instr, spell_line}
-use Rattle.rl_text.specs.Reading.{either, name_at, number_at, mark_at, key_at, word_at, end_at, none_left}
+use Rattle.rl_defs.specs.DomainForms.{spell_register, spell_one, spell_some, two, three, spell_arg, spell_results, spell_head, spell_native, spell_line}
+use Rattle.rl_text.specs.Reading.{mark_at, key_at, end_at, none_left}
 use Rattle.rl_text.proofs.PartLaws.{part, mark_again, key_again, name_again, number_again, word_again, end_again}
 use Rattle.domain_code.specs.declared.verb.One.{One}
 use Rattle.domain_code.specs.declared.verb.One.TheVariants as one
@@ -30,11 +30,10 @@ use Rattle.domain_code.specs.declared.verb.Named.{Named}
 use Rattle.domain_code.specs.declared.verb.Named.TheVariants as named
 use Rattle.domain_code.specs.declared.verb.Verb.{Verb}
 use Rattle.domain_code.specs.declared.verb.Verb.TheVariants as verb
-use Rattle.domain_code.specs.Verbs.{verb_text, verb_of}
+use Rattle.domain_code.specs.Verbs.{verb_text}
 use Rattle.domain_code.specs.Operands.{register_at}
-use Rattle.rl_text.specs.Many.{list_at, some_at}
 use Rattle.domain_code.specs.Lists.{arg_at, head_at}
-use Rattle.domain_code.specs.Instructions.{one_of, two_of, three_of, named_of, const_at, one_at, two_at, three_at, named_at, jmp_at, put_at, hang_at, unhang_at, ret_at, several_args_at, args_at, results_at, landing_at, behind_args_at, call_at}
+use Rattle.domain_code.specs.Instructions.{one_of, two_of, three_of, named_of, const_at, one_at, two_at, three_at, named_at, jmp_at, put_at, hang_at, unhang_at, ret_at, args_at, results_at, landing_at, behind_args_at, call_at}
 use Rattle.domain_code.specs.Forms.{pair_at, domain_at, slot_at, import_at, words_at, native_of, native_at, function_at, label_at, operands_at, by_word_at, behind_name_at, word_line_at, form_at, line_at}
 use Rattle.domain_code.proofs.VerbLaws.{verb_again}
 use Rattle.domain_code.proofs.OperandLaws.{register_again, next_register_again, next_name_again, next_number_again, registers_again}

@@ -1,19 +1,18 @@
 -- Instructions: what is read is spelled so.
-use Rattle.std.proofs.Common.{◌≡◌, ℕ, inl, inr, List, [], ◌∷◌, ◌++◌, Option, Some, None, refl, sym, ap, subst, ◌∙◌, append_assoc}
+use Rattle.std.proofs.Common.{◌≡◌, ℕ, inl, inr, List, [], ◌∷◌, ◌++◌, Some, refl, sym, ap, ◌∙◌, append_assoc}
 use Rattle.std.specs.Prelude.{codes}
 use Rattle.rl_defs.specs.declared.code.Register.{Register}
 use Rattle.rl_defs.specs.declared.code.CallArg.{CallArg}
-use Rattle.rl_defs.specs.declared.code.Instr.{Instr}
 use Rattle.rl_defs.specs.declared.code.Instr.TheVariants as instr
 use Rattle.rl_defs.specs.declared.code.DomainLine.{DomainLine}
 use Rattle.rl_defs.specs.declared.code.DomainLine.TheVariants as line
 use Rattle.rl_defs.specs.declared.lexeme.Key.TheVariants as k
 use Rattle.rl_defs.specs.declared.lexeme.Mark.TheVariants as m
 use Rattle.rl_defs.specs.Tokens.{Token, Name, Reserved, Number, Sign}
-use Rattle.rl_defs.specs.DomainForms.{spell_register, spell_one, spell_some, behind_comma, two, three, spell_arg, spell_results, spell_instr, spell_line}
-use Rattle.rl_text.specs.Reading.{Reader, ◌>>=◌, either, name_at, mark_at, word_at}
+use Rattle.rl_defs.specs.DomainForms.{spell_register, spell_one, spell_some, two, three, spell_arg, spell_results, spell_instr, spell_line}
+use Rattle.rl_text.specs.Reading.{Reader, ◌>>=◌, name_at, mark_at}
 use Rattle.rl_text.specs.Many.{all_at, list_at, some_at}
-use Rattle.rl_text.proofs.PartLaws.{Part, part, both_parts, bind_some, either_some, mark_takes, mark_step, word_step, name_step}
+use Rattle.rl_text.proofs.PartLaws.{part, both_parts, bind_some, either_some, mark_takes, mark_step, word_step, name_step}
 use Rattle.domain_code.specs.declared.verb.One.{One}
 use Rattle.domain_code.specs.declared.verb.One.TheVariants as one
 use Rattle.domain_code.specs.declared.verb.Two.{Two}

@@ -1,5 +1,5 @@
 -- Lines that are put behind domains, one after the other.
-use Rattle.std.proofs.Common.{◌≡◌, ℕ, zero, suc, ◌<◌, true, false, List, [], ◌∷◌, ◌++◌, length, set, get_or, Result, Ok, Err, refl, sym, ap, ◌∙◌, append_assoc, append-nil, arith}
+use Rattle.std.proofs.Common.{◌≡◌, true, false, List, [], ◌∷◌, ◌++◌, Result, Ok, Err, refl, sym, ap, append_assoc, append-nil}
 use Rattle.std.specs.Prelude.{OnOk}
 use Rattle.rl_defs.specs.declared.bundle.Numbered.{Numbered}
 use Rattle.rl_defs.specs.declared.code.DomainLine.{DomainLine}
@@ -24,25 +24,12 @@ joins_new [] l begins rest = rw begins refl
 joins_new (d ∷ []) l begins rest = one_more d l rest begins
 joins_new (d ∷ e ∷ more) l begins rest = ap (λ (ds : List DomainText). d ∷ ds) (joins_new (e ∷ more) l begins rest)
 
--- the first domain is done where others stand behind it
-behind_first : (d : DomainText) (ds : List DomainText) (rest : Lines) → 0 < length ds → joined (d ∷ ds) rest ≡ d ∷ joined ds rest
-behind_first d [] rest some = absurd (omega arith)
-behind_first d (e ∷ more) rest some = refl
-
-set_some : (d : DomainText) (ds : List DomainText) (j : ℕ) (x : DomainText) → 0 < length (set (d ∷ ds) j x)
-set_some d ds zero x = omega arith
-set_some d ds (suc j) x = omega arith
-
 -- a line that belongs to the last domain
-pub joins_last : (old : List DomainText) (i : ℕ) (last : DomainText) (l : Numbered DomainLine) → suc i ≡ length old → last ≡ get_or old i last → begins_domain l.form ≡ false → Joins old l (set old i (of_lines (last.lines ++ l ∷ [])))
-joins_last [] i last l count is goes_on rest = absurd (omega arith)
-joins_last (d ∷ []) zero last l count is goes_on rest =
-    rw goes_on (ap (λ (lines : Lines). of_lines lines ∷ domains_of rest) (append_assoc last.lines (l ∷ []) (rest_of_domain rest)) ∙ ap (λ (x : DomainText). of_lines (x.lines ++ (l ∷ rest_of_domain rest)) ∷ domains_of rest) is)
-joins_last (d ∷ []) (suc i) last l count is goes_on rest = absurd (omega arith)
-joins_last (d ∷ e ∷ more) zero last l count is goes_on rest = absurd (omega arith)
-joins_last (d ∷ e ∷ more) (suc i) last l count is goes_on rest =
-    behind_first d (set (e ∷ more) i (of_lines (last.lines ++ l ∷ []))) rest (set_some e more i (of_lines (last.lines ++ l ∷ [])))
-    ∙ ap (λ (ds : List DomainText). d ∷ ds) (joins_last (e ∷ more) i last l (omega arith) is goes_on rest)
+pub joins_last : (ds : List DomainText) (last : DomainText) (l : Numbered DomainLine) → begins_domain l.form ≡ false → Joins (ds ++ last ∷ []) l (ds ++ of_lines (last.lines ++ l ∷ []) ∷ [])
+joins_last [] last l goes_on rest =
+    rw goes_on (ap (λ (lines : Lines). of_lines lines ∷ domains_of rest) (append_assoc last.lines (l ∷ []) (rest_of_domain rest)))
+joins_last (d ∷ []) last l goes_on rest = ap (λ (ds : List DomainText). d ∷ ds) (joins_last [] last l goes_on rest)
+joins_last (d ∷ e ∷ more) last l goes_on rest = ap (λ (ds : List DomainText). d ∷ ds) (joins_last (e ∷ more) last l goes_on rest)
 
 -- a line before the first domain
 pub joins_nothing : (l : Numbered DomainLine) → begins_domain l.form ≡ false → Joins [] l []

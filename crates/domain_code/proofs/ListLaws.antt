@@ -1,5 +1,5 @@
 -- The lists of parts in a line: what is read is spelled so, and what is spelled so is read.
-use Rattle.std.proofs.Common.{◌≡◌, ℕ, ◌⊎◌, inl, inr, Bool, true, false, cond, List, [], ◌∷◌, ◌++◌, Option, Some, None, refl, sym, ap, subst, ◌∙◌, append_assoc, append-nil}
+use Rattle.std.proofs.Common.{◌≡◌, ℕ, inl, inr, false, cond, List, [], ◌∷◌, ◌++◌, Some, None, refl, sym, ap, ◌∙◌, append_assoc, append-nil}
 use Rattle.rl_defs.specs.declared.code.Register.{Register}
 use Rattle.rl_defs.specs.declared.code.CallArg.{CallArg}
 use Rattle.rl_defs.specs.declared.code.CallArg.TheVariants as arg
@@ -10,14 +10,13 @@ use Rattle.rl_defs.specs.declared.lexeme.Key.TheVariants as k
 use Rattle.rl_defs.specs.declared.lexeme.Mark.TheVariants as m
 use Rattle.rl_defs.specs.Tokens.{Token, Name, Reserved, Sign}
 use Rattle.rl_defs.specs.IdlForms.{spell_more}
-use Rattle.rl_defs.specs.DomainForms.{spell_register, spell_one, spell_some, spell_arg, spell_kind, spell_head}
+use Rattle.rl_defs.specs.DomainForms.{spell_register, spell_some, spell_arg, spell_kind, spell_head}
 use Rattle.rl_text.specs.Reading.{Reader, ◌>>=◌, either, name_at, mark_at, key_at, none_left}
 use Rattle.rl_text.specs.Many.{all_at, list_at, some_at}
-use Rattle.rl_text.proofs.PartLaws.{Part, part, both_parts, bind_some, either_some, mark_takes, mark_again, mark_step, key_takes, key_again, key_step, name_step, name_again, Takes, Again}
+use Rattle.rl_text.proofs.PartLaws.{part, both_parts, bind_some, either_some, mark_takes, mark_again, mark_step, key_takes, key_step, name_step, name_again, Takes, Again}
 use Rattle.rl_text.proofs.ManyLaws.{Shortens, shortens, all_takes, all_again}
-use Rattle.domain_code.specs.Operands.{register_at}
 use Rattle.domain_code.specs.Lists.{lent_at, passed_at, arg_at, struct_at, lent_struct_at, cap_at, lent_kind_at, own_at, kind_at, head_at}
-use Rattle.domain_code.proofs.OperandLaws.{Fine, all_fine, register_is, register_again, register_step}
+use Rattle.domain_code.proofs.OperandLaws.{Fine, all_fine, register_again, register_step}
 
 -- ---- lists
 

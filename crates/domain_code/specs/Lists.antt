@@ -1,6 +1,5 @@
 -- What a line lists: registers, arguments of a call, and registers of a head.
-use Rattle.std.specs.Prelude.{ℕ, List, Option, None, Some}
-use Rattle.rl_defs.specs.declared.code.Register.{Register}
+use Rattle.std.specs.Prelude.{ℕ, List, Some}
 use Rattle.rl_defs.specs.declared.code.CallArg.{CallArg}
 use Rattle.rl_defs.specs.declared.code.CallArg.TheVariants as arg
 use Rattle.rl_defs.specs.declared.code.HeadKind.{HeadKind}
@@ -8,7 +7,6 @@ use Rattle.rl_defs.specs.declared.code.HeadKind.TheVariants as head
 use Rattle.rl_defs.specs.declared.code.HeadItem.{HeadItem}
 use Rattle.rl_defs.specs.declared.lexeme.Key.TheVariants as k
 use Rattle.rl_defs.specs.declared.lexeme.Mark.TheVariants as m
-use Rattle.rl_defs.specs.Tokens.{Token}
 use Rattle.rl_text.specs.Reading.{Reader, ◌>>=◌, either, name_at, mark_at, key_at}
 use Rattle.domain_code.specs.Operands.{register_at}
 

@@ -1,5 +1,6 @@
 -- Reading a domain part line by line.
-use Rattle.std.specs.Prelude.{◌≡◌, ℕ, ◌⊎◌, List, [], ◌∷◌, ◌++◌, Some, Result, Ok, Err}
+use Rattle.std.specs.Prelude.{◌≡◌, ℕ, ◌⊎◌, Bool, false, ◌&&◌, ◌==◌, not, nat_eq, nat_lt, min, codes, List, [], ◌∷◌, ◌++◌, length, drop, Some, Result, Ok, Err}
+use Rattle.std.specs.List.{starts_with}
 use Rattle.rl_defs.specs.declared.LoadFault.{LoadFault}
 use Rattle.rl_defs.specs.declared.LoadFault.TheVariants.{Refused, Memory}
 use Rattle.rl_defs.specs.declared.bundle.Numbered.{Numbered}
@@ -11,6 +12,7 @@ use Rattle.rl_defs.specs.Parts.{numbered}
 use Rattle.rl_defs.specs.DomainForms.{IsDomainLine}
 use Rattle.rl_defs.specs.DomainParts as parts
 use Rattle.rl_defs.specs.DomainParts.{next_block, domain_part, rest_of_domain, domains_of}
+use Rattle.rl_text.specs.declared.line.Line.{Line}
 use Rattle.rl_text.specs.Forms.{IsRefused}
 use Rattle.rl_text.specs.PartSteps.{Barred}
 use Rattle.domain_code.specs.declared.part.Block.{Block}
@@ -22,6 +24,15 @@ block_of (Declares words slots native) = parts.Declares words slots native
 block_of BehindFunction = parts.BehindFunction
 block_of InFunction = parts.InFunction
 block_of BehindEnd = parts.BehindEnd
+
+-- the first byte is above the blank, and no `domain` comes first
+abbrev pub stands_inside : List ℕ → Bool
+stands_inside [] = false
+stands_inside (first ∷ more) = nat_lt 32 first && not ((first == 100) && starts_with nat_eq (first ∷ more) (codes "domain"))
+
+-- a line with such bytes begins no domain
+abbrev pub goes_on : List ℕ → Line → Bool
+goes_on bytes line = stands_inside (drop (min line.start (length bytes)) bytes)
 
 -- domains, and those of the lines behind them: the first of these lines, up to the next that begins a domain, belong to the last
 abbrev pub joined : List DomainText → Lines → List DomainText

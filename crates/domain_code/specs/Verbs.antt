@@ -70,7 +70,7 @@ abbrev pub with_letter : ℕ → List Verb
 with_letter c =
     if c == 97 then math op.Add ∷ math op.And ∷ [] else
     (if c == 99 then verb.Two two.Copy ∷ verb.Named named.Cap ∷ verb.Call ∷ [] else
-    (if c == 100 then verb.One one.Drop ∷ math op.Div ∷ verb.Two two.DevGet ∷ verb.Two two.DevPut ∷ verb.One one.DevSize ∷ verb.Domain ∷ [] else
+    (if c == 100 then verb.Domain ∷ verb.One one.Drop ∷ math op.Div ∷ verb.Two two.DevGet ∷ verb.Two two.DevPut ∷ verb.One one.DevSize ∷ [] else
     (if c == 101 then math op.Eq ∷ [] else
     (if c == 103 then verb.Three three.Get ∷ [] else
     (if c == 104 then verb.Named named.Has ∷ verb.Hang ∷ [] else

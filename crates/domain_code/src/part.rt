@@ -1,11 +1,12 @@
 //! The lines of a domain part, in order.
-ghost use Rattle.std.specs.Prelude.{◌≡◌, ℕ, ◌+◌, ◌<◌, ◌^◌, List, [], ◌∷◌, ◌++◌, map, length, OnOk};
+ghost use Rattle.std.specs.Prelude.{◌≡◌, ℕ, ◌+◌, ◌<◌, ◌^◌, List, [], ◌∷◌, ◌++◌, map, length, ◌≤◌, OnOk};
+ghost use Rattle.std.specs.List.{prefix_len};
 ghost use Rattle.rl_defs.specs.Refusals.{Answers};
 ghost use Rattle.rl_defs.specs.DomainParts.{FailsDomains, AreDomains, next_block, begins_domain, ends};
 ghost use Rattle.rl_text.specs.Places.{text_of, IsWithin, AreNumbered, first_number};
 ghost use Rattle.domain_code.specs.declared.part.Block.TheVariants as Block;
 ghost use Rattle.rl_text.specs.PartSteps.{GivesBlock};
-ghost use Rattle.domain_code.specs.Parts.{block_of, Joins, TakesLine};
+ghost use Rattle.domain_code.specs.Parts.{block_of, stands_inside, goes_on, Joins, TakesLine};
 
 use crate::read::read_form;
 use rl_defs::bundle::Numbered;
@@ -155,40 +156,116 @@ fn after(block: Block, form: &DomainLine) -> Option<Block>
     }
 }
 
-// Begins a domain with its first line.
+// Whether a line with these bytes and those behind it surely belongs to the domain of the line before it: it isn't indented, and
+// doesn't begin as one that begins a domain.
+fn stands_inside(rest: &[u8]) -> bool
+    ensures { result ≡ stands_inside rest.now }
+{
+    match rest {
+        [first, ..] => *first > b' ' && !(*first == b'd' && rest.starts_with(b"domain")),
+        [] => false,
+    }
+}
+
+// Whether a line surely belongs to the domain of the line before it.
+fn goes_on(bytes: &[u8], line: &Line) -> bool
+    ensures { result ≡ goes_on bytes.now line.now }
+{
+    let start = (line.start as usize).min(bytes.len());
+    let (_, rest) = bytes.split_at(start);
+    stands_inside(rest)
+}
+
+// The lines behind the one of this number.
+fn behind(lines: &[Line], number: u32) -> &[Line]
+    ensures { length result.now ≤ length lines.now }
+{
+    let place = number.saturating_sub(first_number(lines)) as usize + 1;
+    let (_, behind) = lines.split_at(place.min(lines.len()));
+    behind
+}
+
+// How many lines surely belong to the domain of the line before them, so that room for them is made at once.
+fn room(bytes: &[u8], behind: &[Line]) -> usize
+    ensures { result ≡ prefix_len (goes_on bytes.now) behind.now }
+{
+    behind
+        .iter()
+        .take_while(|line| goes_on(bytes, *line))
+        .count()
+}
+
+// What is said where there is no room for a line, which is gone.
+#[cold]
+#[inline(never)]
+fn no_room(_line: Numbered<DomainLine>) -> Memory {
+    Memory
+}
+
+// Puts a line last. Room is made first, and giving the line up stands apart, so that it is moved once and as a whole.
+#[inline(always)]
+fn put_last(lines: &mut Vec<Numbered<DomainLine>>, line: Numbered<DomainLine>) -> Result<(), Memory>
+    ensures { OnOk result (lines.new.items ≡ lines.old.items ++ line ∷ []) }
+{
+    match lines.reserve(1) {
+        Ok(()) => {
+            lines.push_reserved(line);
+            Ok(())
+        }
+        Err(_) => Err(no_room(line)),
+    }
+}
+
+// Begins a domain with its first line, with room for so many lines behind it.
 fn begin(
     alloc: Global,
     domains: &mut Vec<DomainText>,
     line: Numbered<DomainLine>,
+    room: usize,
 ) -> Result<(), Memory>
     ensures { OnOk result (domains.new.items ≡ domains.old.items ++ record { lines = line ∷ [] } ∷ []) }
 {
-    let mut lines = List::new(alloc);
-    lines.push(line)?;
+    let mut all = match Vec::with_capacity(alloc, room.saturating_add(1)) {
+        Ok(all) => all,
+        Err(_) => return Err(Memory),
+    };
+    put_last(&mut all, line)?;
+    let lines = List::from_vec(all);
     match domains.push(DomainText { lines }) {
         Ok(()) => Ok(()),
         Err(_) => Err(Memory),
     }
 }
 
-// Puts a line behind the lines so far. One that begins a domain begins a new one, and each other one belongs to the last.
+// Puts one of these lines behind the lines so far. One that begins a domain begins a new one, and each other one belongs to
+// the last.
 fn put(
     alloc: Global,
     domains: &mut Vec<DomainText>,
     line: Numbered<DomainLine>,
+    bytes: &[u8],
+    lines: &[Line],
 ) -> Result<(), Memory>
     ensures { OnOk result (Joins domains.old.items line domains.new.items) }
 {
     if begins_domain(&line.form) {
-        return begin(alloc, domains, line);
+        let room = room(bytes, behind(lines, line.line));
+        return begin(alloc, domains, line, room);
     }
-    match domains.last_mut() {
-        Some(last) => last.lines.push(line),
+    match domains.pop() {
+        Some(last) => {
+            let mut all = last.lines.into_vec();
+            put_last(&mut all, line)?;
+            let lines = List::from_vec(all);
+            domains.push_reserved(DomainText { lines });
+            Ok(())
+        }
         None => Ok(()),
     }
 }
 
-// Puts a line that may stand behind the lines so far behind them, and gives where it leads. The buffer is for its lexemes.
+// Puts one of these lines, that may stand behind the lines so far, behind them, and gives where it leads. The buffer is for its
+// lexemes.
 fn take_line(
     alloc: Global,
     buffer: &mut Vec<Lexeme>,
@@ -196,6 +273,7 @@ fn take_line(
     block: Block,
     bytes: &[u8],
     line: &Line,
+    lines: &[Line],
 ) -> Result<Block, LoadFault>
     requires { IsWithin bytes.now line.now }
     ensures { TakesLine line.now.number (text_of bytes.now line.now) block domains.old.items domains.new.items result }
@@ -212,7 +290,7 @@ fn take_line(
         line: line.number,
         form,
     };
-    match put(alloc, domains, numbered) {
+    match put(alloc, domains, numbered, bytes, lines) {
         Ok(()) => Ok(next),
         Err(_) => Err(LoadFault::Memory),
     }
@@ -236,7 +314,7 @@ pub fn read_domains(
     let mut block = Block::Outside;
     let mut number = first_number(lines);
     'lines: for line in lines {
-        match take_line(alloc, &mut buffer, &mut domains, block, bytes, line) {
+        match take_line(alloc, &mut buffer, &mut domains, block, bytes, line, lines) {
             Ok(next) => block = next,
             Err(fault) => return Err(fault),
         }

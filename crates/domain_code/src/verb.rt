@@ -162,13 +162,14 @@ const WITH_A: [Verb; 2] = [
 
 const WITH_C: [Verb; 3] = [Verb::Two(Two::Copy), Verb::Named(Named::Cap), Verb::Call];
 
+// Each domain has a line that begins with `domain`, so this word stands first.
 const WITH_D: [Verb; 6] = [
+    Verb::Domain,
     Verb::One(One::Drop),
     Verb::Three(Three::Math(MathOp::Div)),
     Verb::Two(Two::DevGet),
     Verb::Two(Two::DevPut),
     Verb::One(One::DevSize),
-    Verb::Domain,
 ];
 
 const WITH_E: [Verb; 1] = [Verb::Three(Three::Math(MathOp::Eq))];
