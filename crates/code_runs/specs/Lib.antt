@@ -1,0 +1,5 @@
+pub mod Answered
+pub mod Entered
+pub mod Seen
+pub mod Suits
+pub mod Wants
