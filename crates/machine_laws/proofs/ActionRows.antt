@@ -195,8 +195,7 @@ module _ (L : Load) (s z : State) (t : ℕ) (laid : Laid L s) (ready : is_undone
       → 0 < count o (own_of (actor laid ready d)) → seats s v ≡ Some (Hung o k) → Trades laid ready d [] (v ∷ []) → IsIn s v
       → Row L (ledger_of L s) (entry.Unhang t o k v) (ledger_of L z)
   unhang_row i o k v d has_it hung trades there =
-      let mid : State = charged laid ready d in
-      let party : Owner = (frame_entry (actor laid ready d)).party in (
+      let mid : State = charged laid ready d in (
         frame_entry (actor laid ready d),
         under s t,
         own_of d.after,

@@ -1,6 +1,6 @@
 -- Stacks fit behind a call that is issued again.
-use Rattle.std.proofs.Common.{◌≡◌, ◌≢◌, ℕ, ◌<◌, ◌≤◌, true, ◌&&◌, List, [], ◌∷◌, ◌++◌, length, Some, refl, ap, ap₂, sym, subst, ◌∙◌, arith, inl, inr}
-use Rattle.std.proofs.lemmas.Bool.{cases_eq}
+use Rattle.std.proofs.Common.{◌≡◌, ◌≢◌, ℕ, ◌<◌, ◌≤◌, true, ◌&&◌, List, [], ◌∷◌, ◌++◌, length, Some, refl, ap, ap₂, sym, subst, ◌∙◌, arith}
+use Rattle.std.proofs.lemmas.Bool.{and_parts}
 use Rattle.rl_defs.specs.declared.values.Arg.{Arg}
 use Rattle.rl_defs.specs.declared.values.Arg.TheVariants as arg
 use Rattle.rl_defs.specs.declared.tables.Kind.{Kind}
@@ -26,22 +26,19 @@ use Rattle.machine_laws.specs.Registers.{HasTables}
 use Rattle.machine_laws.specs.Fitting.{BodyFits, StackFits, Fitting}
 use Rattle.machine_laws.proofs.Rows.{row_set_same, row_set_other}
 use Rattle.machine_laws.proofs.Stacks.{top_splits}
-use Rattle.machine_laws.proofs.Tops.{client_within}
-use Rattle.machine_laws.proofs.CallerRanks.{and_true}
 use Rattle.machine_laws.proofs.CallingRows.{current_same}
-use Rattle.machine_laws.proofs.StackFits.{stack_kept}
 use Rattle.machine_laws.proofs.LaidRows.{laid_row}
-use Rattle.machine_laws.proofs.Agreeing.{same_agree, below_kept, laid_z}
+use Rattle.machine_laws.proofs.Agreeing.{below_kept, laid_z, all_fit}
 use Rattle.machine_laws.proofs.DoneFits.{types_kept}
 use Rattle.machine_laws.proofs.BegunFits.{begun_fits}
-use Rattle.machine_laws.proofs.EndSteps.{thread_there, moves_nothing, top_call}
+use Rattle.machine_laws.proofs.EndSteps.{moves_nothing, top_call, ready_within}
 
 -- arguments of which none was moved suit as they did
 pub stands_suits : (types : Typing) (kinds : List Kind) (args : List Arg) → moved_of args ≡ [] → args_stand types kinds args ≡ true → args_suit types kinds args ≡ true
 stands_suits types [] [] none stand = refl
-stands_suits types (k ∷ kinds) (arg.Num n ∷ args) none stand = let parts = and_true (arg_stands types k (arg.Num n)) (args_stand types kinds args) stand in ap₂ (λ a b. a && b) parts.0 (stands_suits types kinds args none parts.1)
-stands_suits types (k ∷ kinds) (arg.Lent o ∷ args) none stand = let parts = and_true (arg_stands types k (arg.Lent o)) (args_stand types kinds args) stand in ap₂ (λ a b. a && b) parts.0 (stands_suits types kinds args none parts.1)
-stands_suits types (k ∷ kinds) (arg.Cap x ∷ args) none stand = let parts = and_true (arg_stands types k (arg.Cap x)) (args_stand types kinds args) stand in ap₂ (λ a b. a && b) parts.0 (stands_suits types kinds args none parts.1)
+stands_suits types (k ∷ kinds) (arg.Num n ∷ args) none stand = let parts = and_parts (arg_stands types k (arg.Num n)) (args_stand types kinds args) stand in ap₂ (λ a b. a && b) parts.0 (stands_suits types kinds args none parts.1)
+stands_suits types (k ∷ kinds) (arg.Lent o ∷ args) none stand = let parts = and_parts (arg_stands types k (arg.Lent o)) (args_stand types kinds args) stand in ap₂ (λ a b. a && b) parts.0 (stands_suits types kinds args none parts.1)
+stands_suits types (k ∷ kinds) (arg.Cap x ∷ args) none stand = let parts = and_parts (arg_stands types k (arg.Cap x)) (args_stand types kinds args) stand in ap₂ (λ a b. a && b) parts.0 (stands_suits types kinds args none parts.1)
 stands_suits types (k ∷ kinds) (arg.Moved o ∷ args) none stand = absurd cc
 stands_suits types [] (a ∷ args) none stand = absurd cc
 stands_suits types (k ∷ kinds) [] none stand = absurd cc
@@ -64,7 +61,7 @@ module _ (L : Load) (s : State) (plans : Plans L) (tables : HasTables L.tables) 
   below = below_top (stack s t)
 
   within : (0 < t) × (t ≤ length s.stacks)
-  within = let th = thread_there s t ready in let b = client_within L s t th.0 laid th.1 in (b.0, (let l = laid.stacks in let e = b.1 in omega (arith, l, e)))
+  within = ready_within L s t laid ready
 
   here : stack made t ≡ below ++ begun ∷ []
   here = ap (λ (v : State). stack v t) r.becomes ∙ ap frames_of (row_set_same s.stacks t (below ++ begun ∷ []) within.0 within.1)
@@ -77,7 +74,7 @@ module _ (L : Load) (s : State) (plans : Plans L) (tables : HasTables L.tables) 
       let call = top_call L s plans tables laid owned fits t dead r.of.on_top in
       let target : is_target L x ≡ true = subst (λ n. is_target L n ≡ true) (sym r.through) call.target in
       let row' : method_of L x dead.method ≡ Some call.method = subst (λ n. method_of L n dead.method ≡ Some call.method) (sym r.through) call.row in
-      let parts = and_true (is_shadow L dead.target) (is_idempotent (method_of L dead.target dead.method)) r.reissuable in
+      let parts = and_parts (is_shadow L dead.target) (is_idempotent (method_of L dead.target dead.method)) r.reissuable in
       let idem : call.method.idempotent ≡ true = subst (λ m. is_idempotent m ≡ true) call.row parts.1 in
       let none = moves_nothing (types_of L s) call.method.params dead.args ((plans.methods.target dead.target dead.method call.method call.row).still idem) call.args in
       let instances' : made.instances ≡ s.instances = ap (λ (v : State). v.instances) r.becomes in
@@ -89,11 +86,10 @@ module _ (L : Load) (s : State) (plans : Plans L) (tables : HasTables L.tables) 
       (λ o moved lent. absurd (let e : count o (moved_of dead.args) ≡ 0 = ap (count o) none in omega (arith, e, moved))) load'
 
   pub again_fits : (u : ℕ) → StackFits L z (stack z u)
-  again_fits u = elim (cases_eq u t) [
-    | inl is ↦ subst (λ n. StackFits L z (stack z n)) (sym is) (
-        let split = top_splits (stack s t) dead r.of.on_top in
-        let below' = below_kept L s entry' made laid owned placed r owned' t dead below [] (begun ∷ []) split here (subst (StackFits L s) split (fits.bodies t)) in
-        let same = r.begins.is in
-        subst (StackFits L z) (sym here) (below' begun [] (ap (λ (h : StackFrame). h.target) same ∙ r.through) (ap (λ (h : StackFrame). h.method) same) (ap (λ (h : StackFrame). h.args) same) (begun_here, tt)))
-    | inr ne ↦ subst (StackFits L z) (sym (there u ne)) (stack_kept L s z (stack s u) (same_agree L s entry' made laid owned placed r owned' u (there u ne)) (fits.bodies u))
-  ]
+  again_fits =
+      let split = top_splits (stack s t) dead r.of.on_top in
+      let below' = below_kept L s entry' made laid owned placed r owned' t dead below [] (begun ∷ []) split here (subst (StackFits L s) split (fits.bodies t)) in
+      let same = r.begins.is in
+      all_fit L s entry' made laid owned placed r owned' t
+      (subst (StackFits L z) (sym here) (below' begun [] (ap (λ (h : StackFrame). h.target) same ∙ r.through) (ap (λ (h : StackFrame). h.method) same) (ap (λ (h : StackFrame). h.args) same) (begun_here, tt)))
+      there fits.bodies

@@ -1,5 +1,6 @@
 -- Frames that a step leaves agree on what they have: the state behind a step, and the frames that stand in it as before.
-use Rattle.std.proofs.Common.{◌≡◌, ℕ, ◌+◌, ◌<◌, ◌≤◌, true, List, [], ◌∷◌, ◌++◌, length, Some, refl, ap, sym, subst, ◌∙◌, arith, inl, inr}
+use Rattle.std.proofs.Common.{◌≡◌, ℕ, ◌+◌, ◌<◌, ◌≤◌, true, List, [], ◌∷◌, ◌++◌, length, Some, refl, ap, sym, subst, ◌∙◌, arith, inl, inr, append_assoc, ◌≢◌}
+use Rattle.std.proofs.lemmas.Bool.{cases_eq}
 use Rattle.rl_defs.specs.declared.entry.Entry.{Entry}
 use Rattle.rl_defs.specs.declared.entry.Entry.TheVariants as entry
 use Rattle.rl_defs.specs.declared.load.Load.{Load}
@@ -10,6 +11,7 @@ use Rattle.rl_defs.specs.Crossing.{lent_of}
 use Rattle.rl_defs.specs.Wanted.{instance_load}
 use Rattle.rl_defs.specs.Machine.NativeFits.{types_of, struct_or_none}
 use Rattle.rl_defs.specs.Machine.Steps.{Row as RowOf}
+use Rattle.rl_defs.specs.Machine.Frames.{with_body}
 use Rattle.machine_laws.specs.Ledger.{LedgerFrame}
 use Rattle.machine_laws.specs.LedgerOf.{frame_entry, entries_of, ledger_of}
 use Rattle.machine_laws.specs.LedgerSound.{Owned, Placed, Grounded}
@@ -22,7 +24,7 @@ use Rattle.machine_laws.proofs.Tops.{bottom, entries}
 use Rattle.machine_laws.proofs.Types.{AnyHow, Unchanged, structs_same, stays_sweep}
 use Rattle.machine_laws.proofs.Retyping.{Agrees, body_kept, above_same}
 use Rattle.machine_laws.proofs.Present.{present, stack_within}
-use Rattle.machine_laws.proofs.StackFits.{AllAgree, BelowFits, agree_each}
+use Rattle.machine_laws.proofs.StackFits.{AllAgree, BelowFits, agree_each, stack_kept}
 use Rattle.machine_laws.proofs.LaidRows.{laid_row}
 use Rattle.machine_laws.proofs.StaysRows.{stays_swept, new_stays, instances_row}
 
@@ -76,27 +78,8 @@ module _ (L : Load) (s : State) (e : Entry) (made : State) (laid : Laid L s) (ow
             | inl old ↦ ap (struct_or_none L) behind.1 ∙ sym (ap (struct_or_none L) old)
             | inr new ↦ absurd (let b = found_below 0 s.next_object o s.objects before.0 laid.objects before.1 in omega (arith, b.1, new.0))
           ]
-      by_entry (entry.Call t c x i m args) r' = structs_same L AnyHow s z o (stays_swept L s (entry.Call t c x i m args) made laid (λ n. n) r') behind
-      by_entry (entry.Refuse t c why x m args) r' = structs_same L AnyHow s z o (stays_swept L s (entry.Refuse t c why x m args) made laid (λ n. n) r') behind
-      by_entry (entry.Ret t c results) r' = structs_same L AnyHow s z o (stays_swept L s (entry.Ret t c results) made laid (λ n. n) r') behind
-      by_entry (entry.Unwound t c) r' = structs_same L AnyHow s z o (stays_swept L s (entry.Unwound t c) made laid (λ n. n) r') behind
-      by_entry (entry.Reload t x i left) r' = structs_same L AnyHow s z o (stays_swept L s (entry.Reload t x i left) made laid (λ n. n) r') behind
-      by_entry (entry.Again t c x i) r' = structs_same L AnyHow s z o (stays_swept L s (entry.Again t c x i) made laid (λ n. n) r') behind
-      by_entry (entry.Trap t i cause) r' = structs_same L AnyHow s z o (stays_swept L s (entry.Trap t i cause) made laid (λ n. n) r') behind
-      by_entry (entry.Kill t i) r' = structs_same L AnyHow s z o (stays_swept L s (entry.Kill t i) made laid (λ n. n) r') behind
-      by_entry (entry.Drop t p) r' = structs_same L AnyHow s z o (stays_swept L s (entry.Drop t p) made laid (λ n. n) r') behind
-      by_entry (entry.Set t p k values) r' = structs_same L AnyHow s z o (stays_swept L s (entry.Set t p k values) made laid (λ n. n) r') behind
-      by_entry (entry.Wput t i k v) r' = structs_same L AnyHow s z o (stays_swept L s (entry.Wput t i k v) made laid (λ n. n) r') behind
-      by_entry (entry.Take t i slot p) r' = structs_same L AnyHow s z o (stays_swept L s (entry.Take t i slot p) made laid (λ n. n) r') behind
-      by_entry (entry.Put t i slot p) r' = structs_same L AnyHow s z o (stays_swept L s (entry.Put t i slot p) made laid (λ n. n) r') behind
-      by_entry (entry.DevGet t p b) r' = structs_same L AnyHow s z o (stays_swept L s (entry.DevGet t p b) made laid (λ n. n) r') behind
-      by_entry (entry.DevPut t b p) r' = structs_same L AnyHow s z o (stays_swept L s (entry.DevPut t b p) made laid (λ n. n) r') behind
-      by_entry (entry.Hang t p k v) r' = structs_same L AnyHow s z o (stays_swept L s (entry.Hang t p k v) made laid (λ n. n) r') behind
-      by_entry (entry.Unhang t p k v) r' = structs_same L AnyHow s z o (stays_swept L s (entry.Unhang t p k v) made laid (λ n. n) r') behind
-      by_entry (entry.Show t p values) r' = structs_same L AnyHow s z o (stays_swept L s (entry.Show t p values) made laid (λ n. n) r') behind
-      by_entry (entry.Skip t number) r' = structs_same L AnyHow s z o (stays_swept L s (entry.Skip t number) made laid (λ n. n) r') behind
-      by_entry (entry.Done t) r' = structs_same L AnyHow s z o (stays_swept L s (entry.Done t) made laid (λ n. n) r') behind
       by_entry (entry.Free p) r' = absurd r'
+      by_entry other r' = structs_same L AnyHow s z o (stays_swept L s other made laid (λ n. n) r') behind
 
   -- a frame that stands in both, and lives
   pub agrees : (t u : ℕ) (below above below' above' : List StackFrame) (f : StackFrame) → stack s t ≡ below ++ f ∷ above → stack z u ≡ below' ++ f ∷ above' → is_live z f.instance ≡ true → (is_live s f.instance ≡ true) × Agrees L s z f
@@ -116,28 +99,41 @@ module _ (L : Load) (s : State) (e : Entry) (made : State) (laid : Laid L s) (ow
   pub same_agree : (t : ℕ) → stack z t ≡ stack s t → AllAgree L s z (stack s t)
   same_agree t same = agree_each L s z (stack s t) (λ below above f is lives. agrees t t below above below above f is (same ∙ is) lives)
 
+  -- so its frames fit on
+  pub other_fits : (t : ℕ) → stack z t ≡ stack s t → StackFits L s (stack s t) → StackFits L z (stack z t)
+  other_fits t same fits = subst (StackFits L z) (sym same) (stack_kept L s z (stack s t) (same_agree t same) fits)
+
   -- frames below a top that changes
   pub below_kept : (t : ℕ) (f : StackFrame) (below rest rest' : List StackFrame) → stack s t ≡ below ++ f ∷ rest → stack z t ≡ below ++ rest' → StackFits L s (below ++ f ∷ rest) → BelowFits L z below f
   below_kept t f below rest rest' before behind fits = go [] below refl fits
     where
-      joined : (xs ys zs : List StackFrame) → (xs ++ ys) ++ zs ≡ xs ++ (ys ++ zs)
-      joined [] ys zs = refl
-      joined (x ∷ xs) ys zs = ap (λ l. x ∷ l) (joined xs ys zs)
-
       here : (front tail : List StackFrame) (g : StackFrame) (more : List StackFrame) → below ≡ front ++ g ∷ tail → (front ++ g ∷ tail) ++ more ≡ front ++ g ∷ (tail ++ more)
-      here front tail g more is = joined front (g ∷ tail) more
+      here front tail g more is = append_assoc front (g ∷ tail) more
 
       go : (front tail : List StackFrame) → below ≡ front ++ tail → StackFits L s (tail ++ f ∷ rest) → BelowFits L z tail f
       go front [] is fits' h more target method args top' = top'
       go front (g ∷ []) is fits' h more target method args top' = (
         λ lives. (
-            let a = agrees t t front (f ∷ rest) front rest' g (before ∙ ap (λ l. l ++ f ∷ rest) is ∙ joined front (g ∷ []) (f ∷ rest)) (behind ∙ ap (λ l. l ++ rest') is ∙ joined front (g ∷ []) rest') lives in
+            let a = agrees t t front (f ∷ rest) front rest' g (before ∙ ap (λ l. l ++ f ∷ rest) is ∙ append_assoc front (g ∷ []) (f ∷ rest)) (behind ∙ ap (λ l. l ++ rest') is ∙ append_assoc front (g ∷ []) rest') lives in
             above_same L z g f h rest g.body target method args (body_kept L s z g a.1 (f ∷ rest) g.body refl (fits'.0 a.0)) more),
         top',
       )
       go front (g ∷ (g' ∷ tail)) is fits' h more target method args top' = (
         λ lives. (
-            let a = agrees t t front ((g' ∷ tail) ++ f ∷ rest) front ((g' ∷ tail) ++ rest') g (before ∙ ap (λ l. l ++ f ∷ rest) is ∙ joined front (g ∷ (g' ∷ tail)) (f ∷ rest)) (behind ∙ ap (λ l. l ++ rest') is ∙ joined front (g ∷ (g' ∷ tail)) rest') lives in
+            let a = agrees t t front ((g' ∷ tail) ++ f ∷ rest) front ((g' ∷ tail) ++ rest') g (before ∙ ap (λ l. l ++ f ∷ rest) is ∙ append_assoc front (g ∷ (g' ∷ tail)) (f ∷ rest)) (behind ∙ ap (λ l. l ++ rest') is ∙ append_assoc front (g ∷ (g' ∷ tail)) rest') lives in
             above_same L z g g' g' (tail ++ f ∷ rest) g.body refl refl refl (body_kept L s z g a.1 (g' ∷ (tail ++ f ∷ rest)) g.body refl (fits'.0 a.0)) (tail ++ h ∷ more)),
-        go (front ++ g ∷ []) (g' ∷ tail) (is ∙ sym (joined front (g ∷ []) (g' ∷ tail))) fits'.1 h more target method args top',
+        go (front ++ g ∷ []) (g' ∷ tail) (is ∙ sym (append_assoc front (g ∷ []) (g' ∷ tail))) fits'.1 h more target method args top',
       )
+
+  -- a frame of which only the body changed, and what begins above it
+  pub changed_fits : (t : ℕ) (f after : StackFrame) (below rest rest' : List StackFrame) → stack s t ≡ below ++ f ∷ rest → stack z t ≡ below ++ after ∷ rest' → after ≡ with_body f after.body → StackFits L s (stack s t) → StackFits L z (after ∷ rest') → StackFits L z (stack z t)
+  changed_fits t f after below rest rest' before behind same fits top' =
+      let kept = below_kept t f below rest (after ∷ rest') before behind (subst (StackFits L s) before fits) in
+      subst (StackFits L z) (sym behind) (kept after rest' (ap (λ (g : StackFrame). g.target) same) (ap (λ (g : StackFrame). g.method) same) (ap (λ (g : StackFrame). g.args) same) top')
+
+  -- all stacks fit where one does and the others stay
+  pub all_fit : (t : ℕ) → StackFits L z (stack z t) → ((u : ℕ) → u ≢ t → stack z u ≡ stack s u) → ((u : ℕ) → StackFits L s (stack s u)) → (u : ℕ) → StackFits L z (stack z u)
+  all_fit t here there fits u = elim (cases_eq u t) [
+    | inl is ↦ subst (λ n. StackFits L z (stack z n)) (sym is) here
+    | inr ne ↦ other_fits u (there u ne) (fits u)
+  ]

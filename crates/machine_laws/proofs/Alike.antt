@@ -22,9 +22,6 @@ pub begins_alike : (L : Load) (m n : State) (c x i o : ℕ) (args : List Arg) (f
 begins_alike L m n c x i o args f g a b =
     ap unchosen_frame a.is ∙ ap (λ y. frame_of c x i o args y) (bodies f.body g.body in_m in_n) ∙ sym (ap unchosen_frame b.is)
   where
-    start : StackFrame
-    start = frame_of c x i o args f.body
-
     in_m : BeginsBody L m (frame_of c x i o args f.body) f.body
     in_m = subst (λ h. BeginsBody L m h f.body) a.is a.body
 

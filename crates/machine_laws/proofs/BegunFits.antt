@@ -29,12 +29,13 @@ use Rattle.machine_laws.specs.Fitting.{BodyFits}
 use Rattle.machine_laws.proofs.Seats.{IsIn}
 use Rattle.machine_laws.proofs.Present.{own_root, lent_root, seated}
 use Rattle.machine_laws.proofs.Retyping.{args_same}
-use Rattle.machine_laws.proofs.OwnEntries.{has_counted, begins_own}
+use Rattle.machine_laws.proofs.OwnEntries.{begins_own}
 use Rattle.machine_laws.proofs.OwnFits.{args_are_values, args_pass}
 use Rattle.machine_laws.proofs.OwnFunctions.{entry_function}
 use Rattle.machine_laws.proofs.CodeDoing.{load_there}
 use Rattle.machine_laws.proofs.CallSteps.{begun_entry}
 use Rattle.machine_laws.proofs.DoingFits.{code_on_top, native_on_top}
+use Rattle.machine_laws.proofs.Counts.{has_counted}
 
 -- the arguments of a method, over the tables of the domain that has it
 abbrev pub arguments_fit : (L : Load) (x m : ℕ) (args : List Arg) (types : Typing) (method : MethodRow) → Plans L → is_target L x ≡ true → method_of L x m ≡ Some method → args_suit types method.params args ≡ true → FitsArguments types (domain_of_load L (load_of_target L x)) m args

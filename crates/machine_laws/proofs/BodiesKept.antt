@@ -71,10 +71,7 @@ module _ (L : Load) (s : State) (plans : Plans L) (tables : HasTables L.tables) 
   bodies_kept (entry.Refuse t c why x m args) made enabled r owned' = refused_fits L s plans tables laid owned placed' fits t c x m why args made (not_waiting L s t enabled).0 r owned'
   bodies_kept (entry.Ret t c results) made enabled r owned' = return_fits t c results made (not_waiting L s t enabled).0 r owned'
   bodies_kept (entry.Unwound t c) made enabled r owned' = unwind_fits t c made (not_waiting L s t enabled).0 r owned'
-  bodies_kept (entry.Reload t x i left) made enabled r owned' = still_fits L s (entry.Reload t x i left) made plans tables laid owned placed' fits r owned' (ap (λ (v : State). v.stacks) r.becomes)
   bodies_kept (entry.Again t c x i) made enabled r owned' = again_fits L s plans tables laid owned placed' fits t c x i made (not_waiting L s t enabled).0 r owned'
-  bodies_kept (entry.Trap t i cause) made enabled r owned' = still_fits L s (entry.Trap t i cause) made plans tables laid owned placed' fits r owned' (ap (λ (v : State). v.stacks) r.becomes)
-  bodies_kept (entry.Kill t i) made enabled r owned' = still_fits L s (entry.Kill t i) made plans tables laid owned placed' fits r owned' (ap (λ (v : State). v.stacks) r.becomes)
   bodies_kept (entry.New t w o ty values) made enabled r owned' = by_maker r.makes
     where
       by_maker : ClientMakes L s t w o ty values made ⊎ FrameMakes L s t w o ty values made → AllFit made
@@ -94,6 +91,5 @@ module _ (L : Load) (s : State) (plans : Plans L) (tables : HasTables L.tables) 
   bodies_kept (entry.Hang t o k v) made enabled r owned' = went_fits L s (entry.Hang t o k v) made plans tables laid owned placed' fits r owned' t (not_waiting L s t enabled).0 r.does tt (λ n. n) (λ m. refl) (λ m. refl)
   bodies_kept (entry.Unhang t o k v) made enabled r owned' = unhang_fits L s (entry.Unhang t o k v) made plans tables laid owned placed' fits r owned' t (not_waiting L s t enabled).0 o k v r (λ n. n)
   bodies_kept (entry.Show t o values) made enabled r owned' = still_fits L s (entry.Show t o values) made plans tables laid owned placed' fits r owned' (ap (λ (v : State). v.stacks) r.does.becomes)
-  bodies_kept (entry.Skip t number) made enabled r owned' = still_fits L s (entry.Skip t number) made plans tables laid owned placed' fits r owned' (ap (λ (v : State). v.stacks) r.becomes)
-  bodies_kept (entry.Done t) made enabled r owned' = still_fits L s (entry.Done t) made plans tables laid owned placed' fits r owned' (ap (λ (v : State). v.stacks) r.becomes)
   bodies_kept (entry.Free o) made enabled r owned' = absurd r
+  bodies_kept other made enabled r owned' = still_fits L s other made plans tables laid owned placed' fits r owned' (ap (λ (v : State). v.stacks) r.becomes)

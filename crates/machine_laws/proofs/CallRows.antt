@@ -11,8 +11,8 @@ use Rattle.rl_defs.specs.Machine.History.{OpenCall, issued_again, open_behind, o
 use Rattle.machine_laws.specs.Ledger.{LedgerFrame, Ledger, at, alive}
 use Rattle.machine_laws.specs.LedgerRows.{Runs, callee, Row}
 use Rattle.machine_laws.specs.LedgerSound.{Grounded, Placed}
-use Rattle.machine_laws.proofs.Sums.{at_same, at_other}
-use Rattle.machine_laws.proofs.Calls.{calls_of, CallsAgreeIn, CallsAgree, cond_same, calls_of_own, closed_newest, again_less, IsQuiet, opens_at, quiet_calls, quiet_top}
+use Rattle.machine_laws.proofs.Calls.{calls_of, CallsAgreeIn, CallsAgree, cond_same, calls_of_own, closed_newest, again_less, IsQuiet, opens_at, quiet_calls, quiet_top, ground, party_opened}
+use Rattle.machine_laws.proofs.Rows.{at_same, at_other}
 
 abbrev pub turn : Entry → List ℕ → Turn
 turn e frees = record { entry = e; frees = frees }
@@ -25,17 +25,10 @@ pub record IsCall (e : Entry) : Type 0 where
   pub reloads : (x : ℕ) → is_reload_of x e ≡ 0
 
 module _ (L : Load) (us : List Turn) (s : Ledger) (c : CallsAgree L us s) (p : Placed L s) (frees : List ℕ) where
-  ground : (t : ℕ) (f : LedgerFrame) (fs : List LedgerFrame) → 0 < t → t ≤ length L.clients → s.stack t ≡ f ∷ fs → Grounded L s.loads s.next_instance s.next_call t (f ∷ fs)
-  ground t f fs pos le is = rw is at (p.grounded t pos le)
-
   newest_again : (t n i : ℕ) (f : LedgerFrame) (fs : List LedgerFrame) → n ≡ f.call → alive s.live f.party ≡ false → Grounded L s.loads s.next_instance s.next_call t (f ∷ fs)
       → issued_again n i (calls_of (f ∷ fs)) ≡ calls_of (record f { party = owner.Instance i; own = [] } ∷ fs)
   newest_again t n i f [] is dead g = absurd (let e = g.0 in let l : alive s.live (owner.Client t) ≡ false = rw e at dead in cc (l))
   newest_again t n i f (h ∷ fs) is dead g = rw (eq-eqb f.call n (sym is), again_less L s.loads s.next_instance s.next_call t n i h fs g.4 (let l = g.2 in omega arith)) refl
-
-  opened_party : (t : ℕ) (f : LedgerFrame) (fs : List LedgerFrame) (i : ℕ) → Grounded L s.loads s.next_instance s.next_call t (f ∷ fs) → f.party ≡ owner.Instance i → (0 < i) × (i < s.next_instance)
-  opened_party t f [] i g is = absurd (cc (g.0, is))
-  opened_party t f (h ∷ fs) i g is = let low = g.0.2 in let high = g.0.3 in let e : g.0.0 ≡ i = cc (g.0.1, is) in (omega arith, omega arith)
 
   -- one stack changes, and the calls are counted
   calls_stack : (e : Entry) → IsCall e → 0 < thread_of e → thread_of e ≤ length L.clients → (new : List LedgerFrame) (nc : ℕ) → open_behind e (calls_of (s.stack (thread_of e))) ≡ calls_of new → suc (is_call e + calls_made us) ≡ nc
@@ -96,7 +89,7 @@ module _ (L : Load) (us : List Turn) (s : Ledger) (c : CallsAgree L us s) (p : P
       subst (CallsAgree L (turn (entry.Ret t n results) frees ∷ us)) (sym r.8)
       (calls_stack (entry.Ret t n results) (record { ends = λ i. refl; currents = λ x j. refl; loads = refl; reloads = λ x. refl }) runs.some runs.within
       (record g { own = r.3 } ∷ fs) s.next_call
-      (rw (runs.stack, calls_of_own g r.3 fs) (closed_newest L s.loads s.next_instance s.next_call t n f g fs r.5 (ground t f (g ∷ fs) runs.some runs.within runs.stack))) (let a = c.calls in omega arith))
+      (rw (runs.stack, calls_of_own g r.3 fs) (closed_newest L s.loads s.next_instance s.next_call t n f g fs r.5 (ground L s p t f (g ∷ fs) runs.some runs.within runs.stack))) (let a = c.calls in omega arith))
   calls_row (entry.Unwound t n) z r =
       let f : LedgerFrame = r.0 in
       let g : LedgerFrame = r.1 in
@@ -105,7 +98,7 @@ module _ (L : Load) (us : List Turn) (s : Ledger) (c : CallsAgree L us s) (p : P
       subst (CallsAgree L (turn (entry.Unwound t n) frees ∷ us)) (sym r.8)
       (calls_stack (entry.Unwound t n) (record { ends = λ i. refl; currents = λ x j. refl; loads = refl; reloads = λ x. refl }) runs.some runs.within
       (record g { own = r.3 } ∷ fs) s.next_call
-      (rw (runs.stack, calls_of_own g r.3 fs) (closed_newest L s.loads s.next_instance s.next_call t n f g fs r.5 (ground t f (g ∷ fs) runs.some runs.within runs.stack))) (let a = c.calls in omega arith))
+      (rw (runs.stack, calls_of_own g r.3 fs) (closed_newest L s.loads s.next_instance s.next_call t n f g fs r.5 (ground L s p t f (g ∷ fs) runs.some runs.within runs.stack))) (let a = c.calls in omega arith))
   calls_row (entry.Reload t x i left) z r = subst (CallsAgree L (turn (entry.Reload t x i left) frees ∷ us)) (sym r.9) (record {
     opens = λ u pos le. rw (cond_same (t == u) (open_calls us u)) (c.opens u pos le);
     ends = λ j pos lt. elim (cases_eq j i) [
@@ -131,8 +124,8 @@ module _ (L : Load) (us : List Turn) (s : Ledger) (c : CallsAgree L us s) (p : P
       subst (CallsAgree L (turn (entry.Again t n x i) frees ∷ us)) (sym r.8)
       (calls_stack (entry.Again t n x i) (record { ends = λ i. refl; currents = λ x j. refl; loads = refl; reloads = λ x. refl }) runs.some runs.within
       (record f { party = owner.Instance i; own = [] } ∷ fs) s.next_call
-      (rw runs.stack (newest_again t n i f fs r.3 runs.dead (ground t f fs runs.some runs.within runs.stack))) (let a = c.calls in omega arith))
-  calls_row (entry.Trap t i cause) z r = subst (CallsAgree L (turn (entry.Trap t i cause) frees ∷ us)) (sym r.4) (calls_end (entry.Trap t i cause) i (opened_party t r.0 r.1 i (ground t r.0 r.1 r.2.some r.2.within r.2.stack) r.3).1 (λ os. refl) (λ j. refl) (λ x j. refl) refl refl (λ x. refl))
+      (rw runs.stack (newest_again t n i f fs r.3 runs.dead (ground L s p t f fs runs.some runs.within runs.stack))) (let a = c.calls in omega arith))
+  calls_row (entry.Trap t i cause) z r = subst (CallsAgree L (turn (entry.Trap t i cause) frees ∷ us)) (sym r.4) (calls_end (entry.Trap t i cause) i (party_opened L s.loads s.next_instance s.next_call t r.0 r.1 i (ground L s p t r.0 r.1 r.2.some r.2.within r.2.stack) r.3).1 (λ os. refl) (λ j. refl) (λ x j. refl) refl refl (λ x. refl))
   calls_row (entry.Kill t i) z r = subst (CallsAgree L (turn (entry.Kill t i) frees ∷ us)) (sym r.4) (calls_end (entry.Kill t i) i (let e = r.3 in let l = (p.current_of r.2).0 in omega arith) (λ os. refl) (λ j. refl) (λ x j. refl) refl refl (λ x. refl))
   calls_row (entry.New t w o ty values) z r = subst (CallsAgree L (turn (entry.New t w o ty values) frees ∷ us)) (sym r.7) (top (entry.New t w o ty values) (record { opens = λ os. refl; ends = λ i. refl; currents = λ x j. refl; calls = refl; loads = refl; reloads = λ x. refl }) r.0 r.1 r.2 r.3)
   calls_row (entry.Drop t o) z r = subst (CallsAgree L (turn (entry.Drop t o) frees ∷ us)) (sym r.5) (top (entry.Drop t o) (record { opens = λ os. refl; ends = λ i. refl; currents = λ x j. refl; calls = refl; loads = refl; reloads = λ x. refl }) r.0 r.1 r.2 r.3)

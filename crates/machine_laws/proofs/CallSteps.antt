@@ -1,7 +1,7 @@
 -- A call that is made is a row of the ledger.
-use Rattle.std.proofs.Common.{◌≡◌, ℕ, zero, suc, ◌-◌, ◌<◌, Bool, true, false, not, ◌&&◌, List, [], ◌∷◌, ◌++◌, length, map, filter, replicate, Some, None, refl, ap, ap₂, sym, subst, ◌∙◌, arith, inl, inr}
+use Rattle.std.proofs.Common.{◌≡◌, ℕ, zero, suc, ◌-◌, ◌<◌, true, false, not, ◌&&◌, List, [], ◌∷◌, ◌++◌, length, map, filter, replicate, Some, None, refl, ap, ap₂, sym, subst, ◌∙◌, arith, inl, inr}
 use Rattle.std.specs.List.{filter_map}
-use Rattle.std.proofs.lemmas.Bool.{eq-eqb}
+use Rattle.std.proofs.lemmas.Bool.{eq-eqb, and_parts, or_parts, not-true, false_from_ne_true}
 use Rattle.rl_defs.specs.declared.values.Arg.{Arg}
 use Rattle.rl_defs.specs.declared.values.Arg.TheVariants as arg
 use Rattle.rl_defs.specs.declared.tables.MethodRow.{MethodRow}
@@ -29,13 +29,12 @@ use Rattle.machine_laws.specs.Registers.{HasTables}
 use Rattle.machine_laws.specs.Fitting.{Fitting}
 use Rattle.machine_laws.proofs.Seats.{IsIn}
 use Rattle.machine_laws.proofs.Present.{seated}
-use Rattle.machine_laws.proofs.CallerRanks.{and_true, or_false, and_false, free_to_enter}
+use Rattle.machine_laws.proofs.CallerRanks.{and_false, free_to_enter}
 use Rattle.machine_laws.proofs.Wishes.{ClientWish, FrameWish, wish_as}
 use Rattle.machine_laws.proofs.CallingRows.{Caller, call_row}
 use Rattle.machine_laws.proofs.Callers.{frame_caller, calls_well}
 use Rattle.machine_laws.proofs.Owners.{top_root}
-use Rattle.machine_laws.proofs.OwnEntries.{has_counted, counted_has}
-use Rattle.machine_laws.proofs.Unlent.{not_has}
+use Rattle.machine_laws.proofs.Counts.{has_counted, counted_has}
 
 -- A wished call, whoever makes it: its caller in the ledger, and what it is of.
 pub record Called (L : Load) (s : State) (t : ℕ) (w : Wish) : Type 0 where
@@ -85,7 +84,7 @@ own_args lent (arg.Lent p ∷ args) n moved lends =
     rw is (own_args lent args n moved (λ o some. lends o (omega (arith, some))))
 
 pub own_begun : (args : List Arg) (at : ℕ) → ((o : ℕ) → 0 < count o (moved_of args) → 0 < count o (lent_of args) → ⊥) → own_of_body (lent_of args) (body.Code at (entry_registers args)) ≡ moved_of args
-own_begun args at apart = own_args (lent_of args) args (32 - length args) (λ o some. not_has (lent_of args) o (λ is. apart o some (has_counted (lent_of args) o is))) (λ o some. counted_has (lent_of args) o some)
+own_begun args at apart = own_args (lent_of args) args (32 - length args) (λ o some. false_from_ne_true (has (lent_of args) o) (λ is. apart o some (has_counted (lent_of args) o is))) (λ o some. counted_has (lent_of args) o some)
 
 pub begun_entry : (L : Load) (z : State) (c x i m : ℕ) (args : List Arg) (f : StackFrame) → ((o : ℕ) → 0 < count o (moved_of args) → 0 < count o (lent_of args) → ⊥) → Begins L z c x i m args f → frame_entry f ≡ callee c x i m args
 begun_entry L z c x i m args f apart begins = go f.body refl begins.is begins.body
@@ -105,16 +104,12 @@ begun_entry L z c x i m args f apart begins = go f.body refl begins.is begins.bo
 
 -- an enabled thread doesn't wait
 pub not_waiting : (L : Load) (s : State) (t : ℕ) → is_enabled L s t ≡ true → (is_undone (row s.threads t) ≡ true) × (waits L s t ≡ false)
-not_waiting L s t enabled = let parts = and_true (is_undone (row s.threads t)) (not (waits L s t)) enabled in (parts.0, go (waits L s t) parts.1)
-  where
-    go : (b : Bool) → not b ≡ true → b ≡ false
-    go true e = absurd cc
-    go false e = refl
+not_waiting L s t enabled = let parts = and_parts (is_undone (row s.threads t)) (not (waits L s t)) enabled in (parts.0, not-true (waits L s t) parts.1)
 
 pub enters_free : (L : Load) (s : State) (t : ℕ) (w : Wish) → is_enabled L s t ≡ true → wish L s t ≡ Some w → refusal L s t w.target ≡ None → is_live s (current L s w.target) ≡ true → is_taken L s t (current L s w.target) ≡ false
 enters_free L s t w enabled wants none lives =
     let no_wait = (not_waiting L s t enabled).1 in
-    let split = or_false (would_enter L s t (wish L s t)) (would_reenter L s t (top (stack s t))) no_wait in
+    let split = or_parts (would_enter L s t (wish L s t)) (would_reenter L s t (top (stack s t))) no_wait in
     let e : would_enter L s t (Some w) ≡ false = rw wants at split.0 in
     let both : (is_live s (current L s w.target) && is_none_code (refusal L s t w.target)) ≡ true = ap₂ (λ a b. a && is_none_code b) lives none in
     and_false (is_live s (current L s w.target) && is_none_code (refusal L s t w.target)) (is_taken L s t (current L s w.target)) e both

@@ -1,6 +1,5 @@
 -- Stacks fit behind a call that is made: its caller waits, and its frame begins.
-use Rattle.std.proofs.Common.{slice_get, ◌≡◌, ◌≢◌, ℕ, ◌-◌, ◌<◌, ◌≤◌, true, List, [], ◌∷◌, ◌++◌, length, Some, slice_set, refl, ap, ap₂, sym, subst, ◌∙◌, arith, inl, inr}
-use Rattle.std.proofs.lemmas.Bool.{cases_eq}
+use Rattle.std.proofs.Common.{slice_get, ◌≡◌, ◌≢◌, ℕ, ◌<◌, ◌≤◌, true, List, [], ◌∷◌, ◌++◌, length, Some, refl, ap, ap₂, sym, subst, ◌∙◌, arith, inl, inr, append_assoc}
 use Rattle.rl_defs.specs.declared.values.Arg.{Arg}
 use Rattle.rl_defs.specs.declared.code.Register.{Register}
 use Rattle.rl_defs.specs.declared.code.CallArg.{CallArg}
@@ -29,7 +28,7 @@ use Rattle.rl_defs.specs.Machine.Seen.{domain_of_instance, words_in}
 use Rattle.rl_defs.specs.Machine.NativeFits.{types_of, trait_if, is_target}
 use Rattle.rl_defs.specs.Machine.Wants.{by_body}
 use Rattle.rl_defs.specs.Machine.Frames.{below_top, with_body, instr_at, waiting, waiting_body}
-use Rattle.rl_defs.specs.Machine.Calling.{with_fuel, is_enabled}
+use Rattle.rl_defs.specs.Machine.Calling.{is_enabled}
 use Rattle.rl_defs.specs.Machine.CallRows.{Calls}
 use Rattle.machine_laws.specs.LedgerOf.{ledger_of}
 use Rattle.machine_laws.specs.LedgerSound.{Owned, Placed}
@@ -37,11 +36,9 @@ use Rattle.machine_laws.specs.Shape.{Laid}
 use Rattle.machine_laws.specs.Plans.{Plans}
 use Rattle.machine_laws.specs.Registers.{Parted, HasTables}
 use Rattle.machine_laws.specs.Fitting.{BodyFits, CodeWaits, StackFits, Fitting}
-use Rattle.machine_laws.proofs.Rows.{row_set_same, row_set_other, length_set}
+use Rattle.machine_laws.proofs.Rows.{row_set_same, row_set_other}
 use Rattle.machine_laws.proofs.Stacks.{top_splits}
-use Rattle.machine_laws.proofs.Tops.{client_within}
 use Rattle.machine_laws.proofs.Acting.{commands_as}
-use Rattle.machine_laws.proofs.FrameRows.{gone_on}
 use Rattle.machine_laws.proofs.Wishes.{ClientWish, FrameWish, wish_as}
 use Rattle.machine_laws.proofs.CodeDoing.{body_fits}
 use Rattle.machine_laws.proofs.OwnFits.{called_by}
@@ -49,16 +46,16 @@ use Rattle.machine_laws.proofs.OwnActs.{waiting as waiting_stand}
 use Rattle.machine_laws.proofs.OwnFunctions.{instr_here}
 use Rattle.machine_laws.proofs.Callers.{method_by_trait, call_no_trap, calling, caller_frame, waits, waits_same, code_calls, code_waits, native_calls, calls_well}
 use Rattle.machine_laws.proofs.CallSteps.{ClientsCall, called, not_waiting}
-use Rattle.machine_laws.proofs.StackFits.{stack_kept}
 use Rattle.machine_laws.proofs.Retyping.{body_kept}
 use Rattle.machine_laws.proofs.Present.{present}
 use Rattle.machine_laws.proofs.OwnDoing.{native_kept}
 use Rattle.machine_laws.proofs.CallingRows.{current_same}
 use Rattle.machine_laws.proofs.LaidRows.{laid_row}
-use Rattle.machine_laws.proofs.Agreeing.{same_agree, below_kept, laid_z}
+use Rattle.machine_laws.proofs.Agreeing.{laid_z, all_fit, changed_fits}
 use Rattle.machine_laws.proofs.DoneFits.{types_kept}
 use Rattle.machine_laws.proofs.BegunFits.{begun_fits}
-use Rattle.machine_laws.proofs.EndSteps.{thread_there}
+use Rattle.machine_laws.proofs.EndSteps.{ready_within}
+use Rattle.machine_laws.proofs.Charged.{stack_charged, instances_charged, others_charged, count_charged}
 
 -- an instruction that calls a method
 pub record IsCall (d : Domain) (kinds : Kinds) (i : Instr) (method : MethodRow) : Type 0 where
@@ -73,33 +70,7 @@ pub record IsCall (d : Domain) (kinds : Kinds) (i : Instr) (method : MethodRow) 
 
 pub is_call : (d : Domain) (kinds : Kinds) (i : Instr) (method : MethodRow) → called_by d kinds i ≡ Some method → IsCall d kinds i method
 is_call d kinds (instr.Call c name args results failed label) method e = record { target = c; name = name; args = args; results = results; failed = failed; label = label; is = refl; calls = e }
-is_call d kinds (instr.Const a v) method e = absurd cc
-is_call d kinds (instr.Copy a b) method e = absurd cc
-is_call d kinds (instr.Math op a b c) method e = absurd cc
-is_call d kinds (instr.Jmp l) method e = absurd cc
-is_call d kinds (instr.Jz a l) method e = absurd cc
-is_call d kinds (instr.Move a b) method e = absurd cc
-is_call d kinds (instr.Get a b c) method e = absurd cc
-is_call d kinds (instr.Wget a b) method e = absurd cc
-is_call d kinds (instr.Has a s) method e = absurd cc
-is_call d kinds (instr.Cap a s) method e = absurd cc
-is_call d kinds (instr.DevSize a) method e = absurd cc
-is_call d kinds (instr.New a s) method e = absurd cc
-is_call d kinds (instr.Drop a) method e = absurd cc
-is_call d kinds (instr.Set a b c) method e = absurd cc
-is_call d kinds (instr.Wput a b) method e = absurd cc
-is_call d kinds (instr.Take a s) method e = absurd cc
-is_call d kinds (instr.Put s a) method e = absurd cc
-is_call d kinds (instr.DevGet a b) method e = absurd cc
-is_call d kinds (instr.DevPut a b) method e = absurd cc
-is_call d kinds (instr.Hang a n b) method e = absurd cc
-is_call d kinds (instr.Unhang a b n) method e = absurd cc
-is_call d kinds (instr.Ret rs) method e = absurd cc
-is_call d kinds instr.Trap method e = absurd cc
-
-joined : (xs ys zs : List StackFrame) → (xs ++ ys) ++ zs ≡ xs ++ (ys ++ zs)
-joined [] ys zs = refl
-joined (x ∷ xs) ys zs = ap (λ l. x ∷ l) (joined xs ys zs)
+is_call d kinds other method e = absurd cc
 
 module _ (L : Load) (s : State) (plans : Plans L) (tables : HasTables L.tables) (laid : Laid L s) (owned : Owned L (ledger_of L s)) (fits : Fitting L s) (t : ℕ) (ready : is_undone (row s.threads t) ≡ true) (w : Wish) (wished : FrameWish L s t w) where
   abbrev caller : StackFrame
@@ -150,27 +121,6 @@ module _ (L : Load) (s : State) (plans : Plans L) (tables : HasTables L.tables) 
           let wants : kept ≡ action.Call g.target g.method g.args = sym same.1 ∙ sym (ap₂ (λ h k. action.Call h k g.args) target method ∙ ap (action.Call w.target w.method) args) in
           subst (λ (h : StackFrame). BodyFits L s h (g ∷ []) h.body) (sym waits_is) (before'.0, wants)
 
-  -- a native body that waits is native still
-  pub native_waits : (held : List ℕ) (kept : Action) → caller.body ≡ body.Native held kept → (at : ℕ) (regs : Registers) → waiting_caller.body ≡ body.Code at regs → ⊥
-  native_waits held kept is at regs e =
-      let same = (native_calls L s t plans tables laid owned fits ready w wished held kept is).0 in
-      let e' : waiting_body (domain_of_instance L s caller.instance) (moved_of w.args) (body.Native held kept) ≡ body.Code at regs = sym (ap (waiting_body (domain_of_instance L s caller.instance) (moved_of w.args)) is) ∙ sym (ap (λ (h : StackFrame). waiting_body (domain_of_instance L s h.instance) (moved_of w.args) h.body) same) ∙ e in
-      cc
-
-  abbrev charged_is : w.charged ≡ gone_on s t waiting_caller (with_fuel (wished.fuel - 1) wished.thread)
-  charged_is = ap (λ (v : Wish). v.charged) wished.is
-
-  pub stack_charged : stack w.charged t ≡ below_top (stack s t) ++ waiting_caller ∷ []
-  stack_charged =
-      let b = client_within L s t wished.thread laid wished.of in
-      ap (λ (v : State). stack v t) charged_is ∙ ap frames_of (row_set_same s.stacks t (below_top (stack s t) ++ waiting_caller ∷ []) b.0 (let l = laid.stacks in omega (arith, b.1, l)))
-
-  pub stacks_charged : w.charged.stacks ≡ slice_set s.stacks (t - 1) (below_top (stack s t) ++ waiting_caller ∷ [])
-  stacks_charged = ap (λ (v : State). v.stacks) charged_is
-
-  pub instances_charged : w.charged.instances ≡ s.instances
-  instances_charged = ap (λ (v : State). v.instances) charged_is
-
 module _ (L : Load) (s : State) (plans : Plans L) (tables : HasTables L.tables) (laid : Laid L s) (owned : Owned L (ledger_of L s)) (placed : Placed L (ledger_of L s)) (fits : Fitting L s) (clients : ClientsCall L s) (t c x i m : ℕ) (args : List Arg) (made : State)
     (enabled : is_enabled L s t ≡ true) (r : Calls L s t c x i m args made) (owned' : Owned L (ledger_of L (sweep_state made))) where
   abbrev z : State
@@ -189,7 +139,7 @@ module _ (L : Load) (s : State) (plans : Plans L) (tables : HasTables L.tables) 
   begun = r.frame
 
   within : (0 < t) × (t ≤ length s.stacks)
-  within = let th = thread_there s t ready in let b = client_within L s t th.0 laid th.1 in (b.0, (let l = laid.stacks in let e = b.1 in omega (arith, l, e)))
+  within = ready_within L s t laid ready
 
   -- the stacks of the state in which the call is charged, and of the one behind it
   module _ (front : List StackFrame) (here : stack r.charged t ≡ front) (there : (u : ℕ) → u ≢ t → stack r.charged u ≡ stack s u) (long : length r.charged.stacks ≡ length s.stacks) (instances : r.charged.instances ≡ s.instances) where
@@ -210,12 +160,6 @@ module _ (L : Load) (s : State) (plans : Plans L) (tables : HasTables L.tables) 
         begun_fits L made plans (laid_row L s entry' made laid r) (laid_z L s entry' made laid owned placed r owned') owned' t c x i m args begun front (types_of L s) k.method r.begins stack_here k.target k.row k.suits
         (λ o in_z. types_kept L s entry' made plans tables laid owned placed fits r owned' (λ n. n) o in_z) (λ y. refl) k.apart load'
 
-    others_fit : (u : ℕ) → u ≢ t → StackFits L z (stack z u)
-    others_fit u ne = subst (StackFits L z) (sym (stack_there u ne)) (stack_kept L s z (stack s u) (same_agree L s entry' made laid owned placed r owned' u (stack_there u ne)) (fits.bodies u))
-
-  at_t : (u : ℕ) → u ≡ t → StackFits L z (stack z t) → StackFits L z (stack z u)
-  at_t u is h = subst (λ n. StackFits L z (stack z n)) (sym is) h
-
   -- a frame that calls
   module _ (wished : FrameWish L s t w) where
     abbrev caller' : StackFrame
@@ -231,16 +175,16 @@ module _ (L : Load) (s : State) (plans : Plans L) (tables : HasTables L.tables) 
     charged_here = stack_charged L s plans tables laid owned fits t ready w wished
 
     charged_there : (u : ℕ) → u ≢ t → stack r.charged u ≡ stack s u
-    charged_there u ne = ap (λ st. frames_of (row st u)) (stacks_charged L s plans tables laid owned fits t ready w wished) ∙ ap frames_of (row_set_other s.stacks t u (below ++ waits' ∷ []) within.0 ne)
+    charged_there = others_charged L s plans tables laid owned fits t ready w wished
 
     long : length r.charged.stacks ≡ length s.stacks
-    long = ap (λ xs. length xs) (stacks_charged L s plans tables laid owned fits t ready w wished) ∙ length_set s.stacks (t - 1) (below ++ waits' ∷ [])
+    long = count_charged L s plans tables laid owned fits t ready w wished
 
     instances : r.charged.instances ≡ s.instances
     instances = instances_charged L s plans tables laid owned fits t ready w wished
 
     here : stack z t ≡ below ++ waits' ∷ (begun ∷ [])
-    here = stack_here (below ++ waits' ∷ []) charged_here charged_there long instances ∙ joined below (waits' ∷ []) (begun ∷ [])
+    here = stack_here (below ++ waits' ∷ []) charged_here charged_there long instances ∙ append_assoc below (waits' ∷ []) (begun ∷ [])
 
     waits_fit : is_live z waits'.instance ≡ true → BodyFits L z waits' (begun ∷ []) waits'.body
     waits_fit lives =
@@ -254,19 +198,14 @@ module _ (L : Load) (s : State) (plans : Plans L) (tables : HasTables L.tables) 
         }) (begun ∷ []) waits'.body refl old
 
     by_frame : (u : ℕ) → StackFits L z (stack z u)
-    by_frame u = elim (cases_eq u t) [
-      | inl is ↦ at_t u is (
-          let split = top_splits (stack s t) caller' (calling L s t plans tables laid owned fits ready w wished).on_top in
-          let below' = below_kept L s entry' made laid owned placed r owned' t caller' below [] (waits' ∷ (begun ∷ [])) split here (subst (StackFits L s) split (fits.bodies t)) in
-          let same = waits_same L s t plans tables laid owned fits ready w wished in
-          subst (StackFits L z) (sym here) (below' waits' (begun ∷ []) (ap (λ (g : StackFrame). g.target) same) (ap (λ (g : StackFrame). g.method) same) (ap (λ (g : StackFrame). g.args) same)
-          (waits_fit, (begun_here (below ++ waits' ∷ []) charged_here charged_there long instances, tt))))
-      | inr ne ↦ others_fit (below ++ waits' ∷ []) charged_here charged_there long instances u ne
-    ]
+    by_frame = all_fit L s entry' made laid owned placed r owned' t
+        (changed_fits L s entry' made laid owned placed r owned' t caller' waits' below [] (begun ∷ []) (top_splits (stack s t) caller' (calling L s t plans tables laid owned fits ready w wished).on_top) here (waits_same L s t plans tables laid owned fits ready w wished) (fits.bodies t)
+        (waits_fit, (begun_here (below ++ waits' ∷ []) charged_here charged_there long instances, tt)))
+        (stack_there (below ++ waits' ∷ []) charged_here charged_there long instances) fits.bodies
 
   -- a client that calls
   by_client : ClientWish L s t w → (u : ℕ) → StackFits L z (stack z u)
-  by_client wished u =
+  by_client wished =
       let charged : r.charged ≡ _ = ap (λ (v : Wish). v.charged) wished.is in
       let stacks' : r.charged.stacks ≡ s.stacks = ap (λ (v : State). v.stacks) charged in
       let alone : stack s t ≡ [] = (commands_as L s t (Commands (command.Call w.target w.method wished.given wished.names)) tt wished.wants).alone in
@@ -274,10 +213,7 @@ module _ (L : Load) (s : State) (plans : Plans L) (tables : HasTables L.tables) 
       let there : (u : ℕ) → u ≢ t → stack r.charged u ≡ stack s u = λ u ne. ap (λ st. frames_of (row st u)) stacks' in
       let long : length r.charged.stacks ≡ length s.stacks = ap (λ xs. length xs) stacks' in
       let instances : r.charged.instances ≡ s.instances = ap (λ (v : State). v.instances) charged in
-      elim (cases_eq u t) [
-        | inl is ↦ at_t u is (subst (StackFits L z) (sym (stack_here [] here there long instances)) (begun_here [] here there long instances, tt))
-        | inr ne ↦ others_fit [] here there long instances u ne
-      ]
+      all_fit L s entry' made laid owned placed r owned' t (subst (StackFits L z) (sym (stack_here [] here there long instances)) (begun_here [] here there long instances, tt)) (stack_there [] here there long instances) fits.bodies
 
   pub called_fits : (u : ℕ) → StackFits L z (stack z u)
   called_fits u = elim (wish_as L s t w r.wants) [

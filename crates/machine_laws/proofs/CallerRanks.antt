@@ -1,7 +1,7 @@
 -- Ranks, room and freedom to enter: what stands in no caller's way holds in the ledger too.
-use Rattle.std.proofs.Common.{◌≡◌, ◌≢◌, ℕ, zero, suc, ◌+◌, ◌-◌, ◌<◌, ◌≤◌, ◌==◌, nat_le, Bool, true, false, cond, not, ◌&&◌, ◌||◌, List, [], ◌∷◌, ◌++◌, length, Option, Some, None, refl, ap, sym, subst, ◌∙◌, arith, inl, inr, leb-false, le-leb}
+use Rattle.std.proofs.Common.{◌≡◌, ◌≢◌, ℕ, zero, suc, ◌+◌, ◌<◌, ◌==◌, nat_le, Bool, true, false, not, ◌&&◌, List, [], ◌∷◌, ◌++◌, length, Option, Some, None, refl, ap, sym, subst, ◌∙◌, arith, inl, inr, leb-false, leb-true}
 use Rattle.std.specs.List.{list_any}
-use Rattle.std.proofs.lemmas.Bool.{cases_Bool, eq-eqb, ne_eqb}
+use Rattle.std.proofs.lemmas.Bool.{cases_Bool, eq-eqb, ne_eqb, and_parts, or_parts}
 use Rattle.rl_defs.specs.declared.values.Owner.TheVariants as owner
 use Rattle.rl_defs.specs.declared.load.Load.{Load}
 use Rattle.rl_defs.specs.Domains.{is_serial}
@@ -12,16 +12,6 @@ use Rattle.machine_laws.specs.Ledger.{LedgerFrame}
 use Rattle.machine_laws.specs.LedgerOf.{frame_entry, entries_of, ledger_of}
 use Rattle.machine_laws.specs.LedgerRows.{enters, IsBelow, IsOutranked, IsFree}
 use Rattle.machine_laws.proofs.Tops.{bottom, entries}
-
-pub and_true : (a b : Bool) → (a && b) ≡ true → (a ≡ true) × (b ≡ true)
-and_true true true e = (refl, refl)
-and_true true false e = absurd cc
-and_true false b e = absurd cc
-
-pub or_false : (a b : Bool) → (a || b) ≡ false → (a ≡ false) × (b ≡ false)
-or_false false false e = (refl, refl)
-or_false false true e = absurd cc
-or_false true b e = absurd cc
 
 pub and_false : (a b : Bool) → (a && b) ≡ false → a ≡ true → b ≡ false
 and_false true b e is = e
@@ -46,19 +36,11 @@ pub all_below : (L : Load) (s : State) (rank : ℕ) (fs : List StackFrame) (belo
     → IsBelow L (ledger_of L s) rank below → IsBelow L (ledger_of L s) rank (entries_of fs below)
 all_below L s rank [] below none under = under
 all_below L s rank (f ∷ fs) below none under =
-    let split = or_false (outranks L s rank f) (list_any (outranks L s rank) fs) none in
+    let split = or_parts (outranks L s rank f) (list_any (outranks L s rank) fs) none in
     all_below L s rank fs (frame_entry f ∷ below) split.1 (not_outranking L s rank f split.0, under)
 
 pub below_client : (L : Load) (s : State) (rank t : ℕ) (own : Option _) → IsBelow L (ledger_of L s) rank (bottom t own ∷ [])
 below_client L s rank t own = (λ i e. absurd cc, tt)
-
--- and one that does, of which there is one where the order is broken
-append_over : (xs ys : List LedgerFrame) (f : LedgerFrame) (over under : List LedgerFrame) → xs ≡ over ++ f ∷ under → xs ++ ys ≡ over ++ f ∷ (under ++ ys)
-append_over xs ys f over under is = rw is (go over)
-  where
-    go : (over : List LedgerFrame) → (over ++ f ∷ under) ++ ys ≡ over ++ f ∷ (under ++ ys)
-    go [] = refl
-    go (g ∷ gs) = ap (λ rest. g ∷ rest) (go gs)
 
 -- the entries of a stack: some frames over those below
 pub entries_over : (fs : List StackFrame) (below : List LedgerFrame) → (over : List LedgerFrame) × (entries_of fs below ≡ over ++ below)
@@ -73,8 +55,8 @@ pub some_outranks : (L : Load) (s : State) (rank : ℕ) (fs : List StackFrame) (
 some_outranks L s rank [] below any' = absurd cc
 some_outranks L s rank (f ∷ fs) below any' = elim (cases_Bool (outranks L s rank f)) [
   | inl here ↦
-      let parts = and_true (is_live s f.instance && is_serial L (instance_load s f.instance)) (nat_le (instance_load s f.instance) rank) here in
-      let more = and_true (is_live s f.instance) (is_serial L (instance_load s f.instance)) parts.0 in
+      let parts = and_parts (is_live s f.instance && is_serial L (instance_load s f.instance)) (nat_le (instance_load s f.instance) rank) here in
+      let more = and_parts (is_live s f.instance) (is_serial L (instance_load s f.instance)) parts.0 in
       let over = entries_over fs (frame_entry f ∷ below) in
       record {
         frame = frame_entry f;
@@ -85,19 +67,16 @@ some_outranks L s rank (f ∷ fs) below any' = elim (cases_Bool (outranks L s ra
         party = refl;
         lives = more.0;
         serial = more.1;
-        rank = at_most (instance_load s f.instance) rank parts.1;
+        rank = leb-true (instance_load s f.instance) rank parts.1;
       }
   | inr not_here ↦ some_outranks L s rank fs (frame_entry f ∷ below) (let e : list_any (outranks L s rank) fs ≡ true = rw not_here at any' in e)
 ]
-  where
-    at_most : (a b : ℕ) → nat_le a b ≡ true → a ≤ b
-    at_most a b e = Rattle.std.proofs.Common.leb-true a b e
 
 -- no other client has a frame in an instance that isn't taken
 not_in : (i : ℕ) (fs : List StackFrame) (below : List LedgerFrame) → is_in i fs ≡ false → (enters i below → ⊥) → enters i (entries_of fs below) → ⊥
 not_in i [] below none under here = under here
 not_in i (f ∷ fs) below none under here =
-    let split = or_false (f.instance == i) (is_in i fs) none in
+    let split = or_parts (f.instance == i) (is_in i fs) none in
     not_in i fs (frame_entry f ∷ below) split.1 (λ h. first h) here
   where
     first : enters i (frame_entry f ∷ below) → ⊥
@@ -108,7 +87,7 @@ not_in i (f ∷ fs) below none under here =
             let same : frame_entry f ≡ h.0 = cc in
             let inside : owner.Instance f.instance ≡ owner.Instance i = ap (λ (g : LedgerFrame). g.party) same ∙ p in
             let number : f.instance ≡ i = cc in
-            let split = or_false (f.instance == i) (is_in i fs) none in
+            let split = or_parts (f.instance == i) (is_in i fs) none in
             let yes' = eq-eqb f.instance i number in
             let no' = split.0 in cc
         go (g ∷ gs) e p = let rest : below ≡ gs ++ h.0 ∷ h.2 = cc in under (h.0, gs, h.2, rest, p)
@@ -124,13 +103,13 @@ client_enters i t own h = go h.1 h.3 h.4
 others_none : (i t k : ℕ) (stacks : List (List StackFrame)) → others_in i t k stacks ≡ false → (j : ℕ) (fs : List StackFrame) → row stacks (suc j) ≡ Some fs → ((k + j ≡ t) → ⊥) → is_in i fs ≡ false
 others_none i t k [] none j fs is ne = absurd cc
 others_none i t k (gs ∷ stacks) none zero fs is ne =
-    let split = or_false (not (k == t) && is_in i gs) (others_in i t (k + 1) stacks) none in
+    let split = or_parts (not (k == t) && is_in i gs) (others_in i t (k + 1) stacks) none in
     let apart : k ≢ t = λ e. ne (omega (arith, e)) in
     let same : gs ≡ fs = cc in
     let e : is_in i gs ≡ false = and_false (not (k == t)) (is_in i gs) split.0 (rw (ne_eqb k t apart) refl) in
     subst (λ x. is_in i x ≡ false) same e
 others_none i t k (gs ∷ stacks) none (suc j) fs is ne =
-    let split = or_false (not (k == t) && is_in i gs) (others_in i t (k + 1) stacks) none in
+    let split = or_parts (not (k == t) && is_in i gs) (others_in i t (k + 1) stacks) none in
     others_none i t (k + 1) stacks split.1 j fs is (λ e. ne (omega (arith, e)))
 
 pub free_to_enter : (L : Load) (s : State) (t i : ℕ) → is_taken L s t i ≡ false → IsFree L (ledger_of L s) t i

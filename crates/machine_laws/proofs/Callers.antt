@@ -1,7 +1,7 @@
 -- A frame that calls: its own frame in the ledger while it waits, and what its call is of.
-use Rattle.std.proofs.Common.{◌≡◌, ℕ, suc, ◌+◌, ◌-◌, ◌<◌, ◌≤◌, ◌==◌, Bool, true, false, cond, not, ◌||◌, ◌⊎◌, List, [], ◌∷◌, length, filter, Some, None, slice_get, refl, ap, sym, subst, ◌∙◌, arith, inl, inr}
+use Rattle.std.proofs.Common.{◌≡◌, ℕ, suc, ◌+◌, ◌-◌, ◌<◌, ◌≤◌, ◌==◌, Bool, true, false, cond, not, ◌||◌, List, [], ◌∷◌, length, filter, Some, None, slice_get, refl, ap, sym, subst, ◌∙◌, arith, inl, inr}
 use Rattle.std.specs.List.{list_all}
-use Rattle.std.proofs.lemmas.Bool.{cases_Bool, cases_eq, eqb-true}
+use Rattle.std.proofs.lemmas.Bool.{cases_Bool, cases_eq, eqb-true, and_parts, not-true, or_cases}
 use Rattle.std.proofs.lemmas.Option.{slice_get_past}
 use Rattle.rl_defs.specs.declared.values.Arg.{Arg}
 use Rattle.rl_defs.specs.declared.tables.MethodRow.{MethodRow}
@@ -36,7 +36,7 @@ use Rattle.machine_laws.proofs.Acting.{ActsAs, acts_as}
 use Rattle.machine_laws.proofs.Wishes.{FrameWish}
 use Rattle.machine_laws.proofs.FrameRows.{gone_on, laid_on}
 use Rattle.machine_laws.proofs.Pushing.{gone_ledger}
-use Rattle.machine_laws.proofs.CallerRanks.{and_true, entries_length, all_below, below_client, some_outranks}
+use Rattle.machine_laws.proofs.CallerRanks.{entries_length, all_below, below_client, some_outranks}
 use Rattle.machine_laws.proofs.CallingRows.{Caller}
 use Rattle.machine_laws.proofs.CodeDoing.{NotTrap, CodeDoes, body_fits, code_does}
 use Rattle.machine_laws.proofs.OwnDoing.{native_kept}
@@ -44,8 +44,8 @@ use Rattle.machine_laws.proofs.OwnRows.{at_most_once}
 use Rattle.machine_laws.proofs.OwnActs.{Pays}
 use Rattle.machine_laws.proofs.OwnActs.{waiting as waiting_stand}
 use Rattle.machine_laws.proofs.OwnFunctions.{instr_here}
-use Rattle.machine_laws.proofs.OwnEntries.{has_counted, counted_has}
 use Rattle.machine_laws.proofs.Counting.{taken}
+use Rattle.machine_laws.proofs.Counts.{has_counted, counted_has, none_counted}
 
 -- the methods of a target are those of its trait
 pub method_by_trait : (L : Load) (x m : ℕ) → Plans L → is_target L x ≡ true → method_of L x m ≡ slice_get (methods_of L.tables (trait_if L (is_target L x) x)) m
@@ -77,7 +77,7 @@ call_no_trap x m args c e = cc
 pub distinct_once : (os : List ℕ) (p : ℕ) → are_distinct os ≡ true → count p os ≤ 1
 distinct_once [] p is = omega arith
 distinct_once (o ∷ os) p is =
-    let parts = and_true (not (has os o)) (are_distinct os) is in
+    let parts = and_parts (not (has os o)) (are_distinct os) is in
     let deeper = distinct_once os p parts.1 in
     elim (cases_Bool (o == p)) [
       | inl e ↦
@@ -97,7 +97,7 @@ distinct_once (o ∷ os) p is =
 each_has : (xs os : List ℕ) → list_all (has xs) os ≡ true → (o : ℕ) → 0 < count o os → has xs o ≡ true
 each_has xs [] is o some = absurd (omega (arith, some))
 each_has xs (p ∷ os) is o some =
-    let parts = and_true (has xs p) (list_all (has xs) os) is in
+    let parts = and_parts (has xs p) (list_all (has xs) os) is in
     elim (cases_Bool (p == o)) [
       | inl e ↦ subst (λ n. has xs n ≡ true) (eqb-true p o e) parts.0
       | inr e ↦ each_has xs os parts.1 o (let z : count o (p ∷ os) ≡ 0 + count o os = ap (λ b. cond b 1 0 + count o os) e in omega (arith, some, z))
@@ -106,7 +106,7 @@ each_has xs (p ∷ os) is o some =
 each_either : (P : ℕ → Bool) (os : List ℕ) → list_all P os ≡ true → (o : ℕ) → 0 < count o os → P o ≡ true
 each_either P [] is o some = absurd (omega (arith, some))
 each_either P (p ∷ os) is o some =
-    let parts = and_true (P p) (list_all P os) is in
+    let parts = and_parts (P p) (list_all P os) is in
     elim (cases_Bool (p == o)) [
       | inl e ↦ subst (λ n. P n ≡ true) (eqb-true p o e) parts.0
       | inr e ↦ each_either P os parts.1 o (let z : count o (p ∷ os) ≡ 0 + count o os = ap (λ b. cond b 1 0 + count o os) e in omega (arith, some, z))
@@ -151,7 +151,6 @@ module _ (L : Load) (s : State) (t : ℕ) (plans : Plans L) (tables : HasTables 
       of_code : (at : ℕ) (regs : Registers) → caller_frame.body ≡ body.Code at regs → CallsWell L s caller_frame waits w.target w.method w.args
       of_code at regs is =
           let c = code_calls at regs is in
-          let d : Domain = domain_of_instance L s caller_frame.instance in
           let same = plans.domains.tables (instance_load s caller_frame.instance) in
           let found : slice_get (methods_of L.tables (trait_if L (is_target L w.target) w.target)) w.method ≡ Some c.can.method = subst (λ tb. slice_get (methods_of tb (trait_if L (is_target L w.target) w.target)) w.method ≡ Some c.can.method) same c.can.row in
           let target = target_by_method L w.target w.method c.can.method found in
@@ -185,7 +184,7 @@ module _ (L : Load) (s : State) (t : ℕ) (plans : Plans L) (tables : HasTables 
             | inr some ↦ let h = has_counted held o (each_has held (moved_of w.args) can.moves o (omega (arith, some))) in let d = distinct_once (moved_of w.args) o can.once in omega (arith, h, d)
           ]) in
           let kept_own : (o : ℕ) → count o (filter (λ p. not (has (moved_of w.args) p)) held) + count o (moved_of w.args) ≡ count o held = λ o. taken (moved_of w.args) o held (once o) (among o) in
-          let apart' : (o : ℕ) → 0 < count o (lent_of w.args) → count o (moved_of w.args) ≡ 0 = λ o lent. (let out = each_either (λ p. not (has (moved_of w.args) p)) (lent_of w.args) can.apart o lent in Rattle.machine_laws.proofs.Counting.none_counted (moved_of w.args) o (not_is (has (moved_of w.args) o) out)) in
+          let apart' : (o : ℕ) → 0 < count o (lent_of w.args) → count o (moved_of w.args) ≡ 0 = λ o lent. (let out = each_either (λ p. not (has (moved_of w.args) p)) (lent_of w.args) can.apart o lent in none_counted (moved_of w.args) o (not-true (has (moved_of w.args) o) out)) in
           record {
             target = plans.binds.target (instance_load s caller_frame.instance) can.import w.target can.bound;
             method = can.method;
@@ -193,21 +192,13 @@ module _ (L : Load) (s : State) (t : ℕ) (plans : Plans L) (tables : HasTables 
             suits = can.suits;
             passes = record {
               moved = λ o. rw (own_f, own_w) (let e = kept_own o in omega (arith, e));
-              lent = λ o some. elim (or_is (has held o) (has caller_frame.lent o) (each_either (λ p. has held p || has caller_frame.lent p) (lent_of w.args) can.lends o some)) [
+              lent = λ o some. elim (or_cases (has held o) (has caller_frame.lent o) (each_either (λ p. has held p || has caller_frame.lent p) (lent_of w.args) can.lends o some)) [
                 | inl mine ↦ inl (rw own_w (let e = kept_own o in let z = apart' o some in let h = has_counted held o mine in omega (arith, e, z, h)))
                 | inr lent ↦ inr (has_counted caller_frame.lent o lent)
               ];
             };
             apart = λ o moved lent. (let z = apart' o lent in omega (arith, z, moved));
           }
-        where
-          not_is : (b : Bool) → not b ≡ true → b ≡ false
-          not_is true e = absurd cc
-          not_is false e = refl
-
-          or_is : (a b : Bool) → (a || b) ≡ true → (a ≡ true) ⊎ (b ≡ true)
-          or_is true b e = inl refl
-          or_is false b e = inr e
 
       go : (b : FrameBody Action) → caller_frame.body ≡ b → CallsWell L s caller_frame waits w.target w.method w.args
       go (body.Code at regs) is = of_code at regs is

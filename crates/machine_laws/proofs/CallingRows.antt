@@ -1,7 +1,7 @@
 -- A call that is entered or refused is its row of the ledger.
-use Rattle.std.proofs.Common.{◌≡◌, ℕ, suc, ◌<◌, ◌==◌, Bool, true, false, not, ◌&&◌, List, [], ◌∷◌, ◌++◌, length, Option, Some, None, refl, ap, ap₂, sym, subst, ◌∙◌, arith, inl, inr, leb-false, leb-true, add-one}
+use Rattle.std.proofs.Common.{◌≡◌, ℕ, suc, ◌<◌, ◌==◌, true, false, not, ◌&&◌, List, [], ◌∷◌, ◌++◌, length, Option, Some, None, refl, ap, ap₂, sym, subst, ◌∙◌, arith, inl, inr, leb-false, leb-true, add-one}
 use Rattle.std.specs.List.{list_any}
-use Rattle.std.proofs.lemmas.Bool.{cases_Bool, eqb-true}
+use Rattle.std.proofs.lemmas.Bool.{cases_Bool, eqb-true, and_parts, not-true}
 use Rattle.rl_defs.specs.declared.values.Arg.{Arg}
 use Rattle.rl_defs.specs.declared.values.Owner.TheVariants as owner
 use Rattle.rl_defs.specs.declared.values.RpcCode.{RpcCode}
@@ -21,7 +21,6 @@ use Rattle.machine_laws.specs.Shape.{Laid}
 use Rattle.machine_laws.proofs.Rows.{at_same}
 use Rattle.machine_laws.proofs.Seats.{seats, IsIn, seats_given}
 use Rattle.machine_laws.proofs.Pushing.{at_twice, pushed_ledger}
-use Rattle.machine_laws.proofs.CallerRanks.{and_true}
 
 -- The caller of a wished call: its own frame in the ledger, those under it, and the state in which it has paid and waits with these objects.
 pub record Caller (L : Load) (s : State) (t : ℕ) (charged : State) : Type 0 where
@@ -118,16 +117,12 @@ module _ (L : Load) (s charged : State) (t : ℕ) (laid : Laid L s) (caller : Ca
   pub refused_in : (x : ℕ) (why : RpcCode) → is_target L x ≡ true → Reason L s t x why → IsRefused L (ledger_of L s) x why (caller.f ∷ caller.fs)
   refused_in x code.Deep target is = let le = leb-true 31 (length (stack s t)) is in let h = caller.height in omega (arith, le, h)
   refused_in x code.Gone target is =
-      let parts = and_true (not (is_live s (current L s x))) (restarts_left L s x == 0) is in (
+      let parts = and_parts (not (is_live s (current L s x))) (restarts_left L s x == 0) is in (
         target,
-        rw (current_same L s x target) (ended (is_live s (current L s x)) parts.0),
+        rw (current_same L s x target) (not-true (is_live s (current L s x)) parts.0),
         eqb-true (restarts_left L s x) 0 parts.1,
       )
-    where
-      ended : (b : Bool) → not b ≡ true → b ≡ false
-      ended true e = absurd cc
-      ended false e = refl
   refused_in x code.Order target is =
-      let parts = and_true (is_serial L (load_of_target L x)) (list_any (outranks L s (load_of_target L x)) (stack s t)) is in
+      let parts = and_parts (is_serial L (load_of_target L x)) (list_any (outranks L s (load_of_target L x)) (stack s t)) is in
       (parts.0, caller.above (load_of_target L x) parts.1)
   refused_in x code.Unwound target is = is

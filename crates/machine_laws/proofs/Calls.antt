@@ -10,7 +10,7 @@ use Rattle.rl_defs.specs.Machine.Steps.{Turn}
 use Rattle.rl_defs.specs.Machine.History.{OpenCall, closed, issued_again, open_behind, open_calls, actor_in, ends, has_ended, current_behind, current_at, is_call, calls_made, is_reload, reloads_made, is_reload_of, reloads_of, restarts_of, lent_in_calls}
 use Rattle.machine_laws.specs.Ledger.{LedgerFrame, Ledger, at, lent_in}
 use Rattle.machine_laws.specs.LedgerRows.{Runs}
-use Rattle.machine_laws.specs.LedgerSound.{Grounded}
+use Rattle.machine_laws.specs.LedgerSound.{Grounded, Placed}
 use Rattle.machine_laws.proofs.OneStack.{at_each}
 
 -- the open call that a frame stands for
@@ -49,6 +49,14 @@ calls_of_own f mine (g ∷ fs) = refl
 pub grounded_own : (L : Load) (loads : ℕ → ℕ) (ni nc t : ℕ) (f : LedgerFrame) (mine : List ℕ) (fs : List LedgerFrame) → Grounded L loads ni nc t (f ∷ fs) → Grounded L loads ni nc t (record f { own = mine } ∷ fs)
 grounded_own L loads ni nc t f mine [] g = g
 grounded_own L loads ni nc t f mine (h ∷ fs) g = g
+
+-- of the frames of a client's stack, and of who runs on top of it
+pub ground : (L : Load) (s : Ledger) → Placed L s → (t : ℕ) (f : LedgerFrame) (fs : List LedgerFrame) → 0 < t → t ≤ length L.clients → s.stack t ≡ f ∷ fs → Grounded L s.loads s.next_instance s.next_call t (f ∷ fs)
+ground L s p t f fs pos le is = rw is at (p.grounded t pos le)
+
+pub party_opened : (L : Load) (loads : ℕ → ℕ) (ni nc t : ℕ) (f : LedgerFrame) (fs : List LedgerFrame) (i : ℕ) → Grounded L loads ni nc t (f ∷ fs) → f.party ≡ owner.Instance i → (0 < i) × (i < ni)
+party_opened L loads ni nc t f [] i g is = absurd (cc (g.0, is))
+party_opened L loads ni nc t f (h ∷ fs) i g is = let low = g.0.2 in let high = g.0.3 in let e : g.0.0 ≡ i = cc (g.0.1, is) in (omega arith, omega arith)
 
 pub grounded_more : (L : Load) (loads loads' : ℕ → ℕ) (ni ni' nc nc' t : ℕ) → ((i : ℕ) → i < ni → loads' i ≡ loads i) → ni ≤ ni' → nc ≤ nc' → (fs : List LedgerFrame) → Grounded L loads ni nc t fs → Grounded L loads' ni' nc' t fs
 grounded_more L loads loads' ni ni' nc nc' t same le le' [] g = g

@@ -28,13 +28,14 @@ use Rattle.machine_laws.specs.Fitting.{CallsFit, Fitting}
 use Rattle.machine_laws.proofs.Acting.{acts_as}
 use Rattle.machine_laws.proofs.Wishes.{wish_as}
 use Rattle.machine_laws.proofs.Seats.{IsIn}
-use Rattle.machine_laws.proofs.Present.{sum_least, seated}
+use Rattle.machine_laws.proofs.Present.{seated}
 use Rattle.machine_laws.proofs.Owners.{top_root}
-use Rattle.machine_laws.proofs.OwnEntries.{has_counted}
 use Rattle.machine_laws.proofs.FrameRows.{answered_same, body_twice}
 use Rattle.machine_laws.proofs.CallSteps.{Called, called, not_waiting}
 use Rattle.machine_laws.proofs.StepRows.{ClientFacts}
 use Rattle.machine_laws.proofs.CallsKnown.{Known, KnownIn, args_suiting, known_same, known_top, known_below, known_push, known_set, known_topped, known_stacks, known_replied, known_before, known_behind}
+use Rattle.machine_laws.proofs.Sums.{sum_least}
+use Rattle.machine_laws.proofs.Counts.{has_counted}
 
 module _ (L : Load) (s : State) (known : KnownIn L s s) where
   -- the frame that did something is on top with another body
@@ -137,10 +138,7 @@ module _ (L : Load) (s : State) (plans : Plans L) (tables : HasTables L.tables) 
   known_row (entry.Unwound t c) made enabled r =
       let left : KnownIn L s (popped t s) = known_set L s s t (below_top (stack s t)) known (known_below L s (stack s t) (known t)) in
       known_replied L s (popped t s) made t (answer.Failed code.Unwound) left r.replies
-  known_row (entry.Reload t x i left) made enabled r = known_stacks L s s made (ap (λ (y : State). y.stacks) r.becomes) known
   known_row (entry.Again t c x i) made enabled r = again_known L s known t c x i made r
-  known_row (entry.Trap t i cause) made enabled r = known_stacks L s s made (ap (λ (y : State). y.stacks) r.becomes) known
-  known_row (entry.Kill t i) made enabled r = known_stacks L s s made (ap (λ (y : State). y.stacks) r.becomes) known
   known_row (entry.New t w o ty values) made enabled r = elim r.makes [
     | inl c ↦ known_stacks L s s made (ap (λ (y : State). y.stacks) c.does.becomes) known
     | inr f ↦ does_known L s known f.does (λ y. refl)
@@ -156,9 +154,8 @@ module _ (L : Load) (s : State) (plans : Plans L) (tables : HasTables L.tables) 
   known_row (entry.Hang t o k v) made enabled r = does_known L s known r.does (λ y. refl)
   known_row (entry.Unhang t o k v) made enabled r = does_known L s known r.does (λ y. refl)
   known_row (entry.Show t o values) made enabled r = known_stacks L s s made (ap (λ (y : State). y.stacks) r.does.becomes) known
-  known_row (entry.Skip t number) made enabled r = known_stacks L s s made (ap (λ (y : State). y.stacks) r.becomes) known
-  known_row (entry.Done t) made enabled r = known_stacks L s s made (ap (λ (y : State). y.stacks) r.becomes) known
   known_row (entry.Free o) made enabled r = absurd r
+  known_row other made enabled r = known_stacks L s s made (ap (λ (y : State). y.stacks) r.becomes) known
 
 -- the calls of all frames fit behind a row and its sweep
 pub calls_kept : (L : Load) (s : State) (e : Entry) (made : State) → Plans L → HasTables L.tables → Laid L s → Owned L (ledger_of L s) → Placed L (ledger_of L s) → Fitting L s → ClientFacts L s → RowOf L s e made → is_enabled L s (thread_of e) ≡ true → Owned L (ledger_of L (sweep_state made))

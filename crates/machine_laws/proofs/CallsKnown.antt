@@ -1,6 +1,6 @@
 -- Frames whose calls fit in the state before a row, with their loans in its heap: those of its stacks, whatever their body, and those that begin.
-use Rattle.std.proofs.Common.{◌≡◌, ℕ, zero, suc, ◌-◌, ◌==◌, Bool, true, false, List, [], ◌∷◌, ◌++◌, Option, Some, None, slice_get, slice_set, refl, ap, sym, subst, ◌∙◌, inl, inr}
-use Rattle.std.proofs.lemmas.Bool.{cases_Bool, eq-eqb}
+use Rattle.std.proofs.Common.{◌≡◌, ℕ, zero, suc, ◌-◌, Bool, true, false, List, [], ◌∷◌, ◌++◌, Option, Some, None, slice_get, slice_set, refl, ap, sym, subst, ◌∙◌, append_assoc}
+use Rattle.std.proofs.lemmas.Bool.{eq-eqb, and_parts}
 use Rattle.rl_defs.specs.declared.values.Arg.{Arg}
 use Rattle.rl_defs.specs.declared.values.Arg.TheVariants as arg
 use Rattle.rl_defs.specs.declared.tables.Kind.{Kind}
@@ -23,11 +23,11 @@ use Rattle.machine_laws.specs.LedgerOf.{ledger_of}
 use Rattle.machine_laws.specs.LedgerSound.{Owned, Placed}
 use Rattle.machine_laws.specs.Shape.{Laid}
 use Rattle.machine_laws.specs.Fitting.{CallFits, CallsFit}
-use Rattle.machine_laws.proofs.CallerRanks.{and_true}
 use Rattle.machine_laws.proofs.Seats.{IsIn}
 use Rattle.machine_laws.proofs.Present.{lent_root, seated}
 use Rattle.machine_laws.proofs.FrameRows.{answered_same}
 use Rattle.machine_laws.proofs.Agreeing.{laid_z, types_old}
+use Rattle.machine_laws.proofs.Retyping.{lent_later}
 
 -- a frame whose call fits in s, with what was lent to it in the heap of s; each of a stack; and each of all stacks of another state
 pub record Known (L : Load) (s : State) (f : StackFrame) : Type 0 where
@@ -47,14 +47,12 @@ arg_suiting types k (arg.Num n) is = is
 arg_suiting types k (arg.Lent o) is = is
 arg_suiting types k (arg.Cap x) is = is
 arg_suiting types (kind.Own ty) (arg.Moved o) is = refl
-arg_suiting types (kind.Num w) (arg.Moved o) is = absurd cc
-arg_suiting types (kind.Lent ty) (arg.Moved o) is = absurd cc
-arg_suiting types (kind.Cap t) (arg.Moved o) is = absurd cc
+arg_suiting types other (arg.Moved o) is = absurd cc
 
 pub args_suiting : (types : Typing) (kinds : List Kind) (args : List Arg) → args_suit types kinds args ≡ true → args_stand types kinds args ≡ true
 args_suiting types [] [] is = refl
 args_suiting types (k ∷ kinds) (a ∷ args) is =
-    let parts = and_true (arg_suits types k a) (args_suit types kinds args) is in
+    let parts = and_parts (arg_suits types k a) (args_suit types kinds args) is in
     rw (arg_suiting types k a parts.0, args_suiting types kinds args parts.1) refl
 args_suiting types [] (a ∷ args) is = absurd cc
 args_suiting types (k ∷ kinds) [] is = absurd cc
@@ -67,16 +65,10 @@ arg_standing types other (kind.Lent ty) (arg.Lent o) args lent targets is = rw (
 arg_standing types other (kind.Cap t) (arg.Cap x) args lent targets is = rw (targets x) is
 arg_standing types other k a args lent targets is = absurd cc
 
-lent_later : (a : Arg) (args : List Arg) (o : ℕ) → has (lent_of args) o ≡ true → has (lent_of (a ∷ args)) o ≡ true
-lent_later (arg.Lent p) args o is = elim (cases_Bool (p == o)) [ inl e ↦ rw e refl | inr e ↦ rw e is ]
-lent_later (arg.Num n) args o is = is
-lent_later (arg.Moved p) args o is = is
-lent_later (arg.Cap x) args o is = is
-
 pub args_standing : (types other : Typing) (kinds : List Kind) (args : List Arg) → ((o : ℕ) → has (lent_of args) o ≡ true → other.struct_of o ≡ types.struct_of o) → ((x : ℕ) → other.trait_of x ≡ types.trait_of x) → args_stand types kinds args ≡ true → args_stand other kinds args ≡ true
 args_standing types other [] [] lent targets is = refl
 args_standing types other (k ∷ kinds) (a ∷ args) lent targets is =
-    let parts = and_true (arg_stands types k a) (args_stand types kinds args) is in
+    let parts = and_parts (arg_stands types k a) (args_stand types kinds args) is in
     rw (
       arg_standing types other k a args lent targets parts.0,
       args_standing types other kinds args (λ o h. lent o (lent_later a args o h)) targets parts.1,
@@ -141,10 +133,6 @@ module _ (L : Load) (s : State) where
       by_top None is answers = known_stacks m z (ap (λ (y : State). y.stacks) answers.becomes) known
       by_top (Some f) is answers = by_live f is (is_live m f.instance) answers
 
-joined : (xs ys zs : List StackFrame) → (xs ++ ys) ++ zs ≡ xs ++ (ys ++ zs)
-joined [] ys zs = refl
-joined (x ∷ xs) ys zs = ap (λ l. x ∷ l) (joined xs ys zs)
-
 -- the frames of a state in which calls fit are known in it
 pub known_before : (L : Load) (s : State) → Laid L s → Owned L (ledger_of L s) → ((t : ℕ) → CallsFit L s (stack s t)) → KnownIn L s s
 known_before L s laid owned fits t = go [] (stack s t) refl (fits t)
@@ -153,7 +141,7 @@ known_before L s laid owned fits t = go [] (stack s t) refl (fits t)
     go front [] is fits' = tt
     go front (f ∷ fs) is fits' = (
       record { fits = fits'.0; there = λ o lent. (let root = lent_root L s laid owned t o front fs f is lent in seated s o (Root root.0) root.1) },
-      go (front ++ f ∷ []) fs (is ∙ sym (joined front (f ∷ []) fs)) fits'.1,
+      go (front ++ f ∷ []) fs (is ∙ sym (append_assoc front (f ∷ []) fs)) fits'.1,
     )
 
 -- where the frames of a row's stacks are known before it, their calls fit behind it and its sweep
@@ -179,5 +167,5 @@ module _ (L : Load) (s : State) (e : Entry) (made : State) (laid : Laid L s) (ow
       go front [] is known' = tt
       go front (f ∷ fs) is known' = (
         known_fits u front fs f is known'.0,
-        go (front ++ f ∷ []) fs (is ∙ sym (joined front (f ∷ []) fs)) known'.1,
+        go (front ++ f ∷ []) fs (is ∙ sym (append_assoc front (f ∷ []) fs)) known'.1,
       )

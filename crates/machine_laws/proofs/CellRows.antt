@@ -14,12 +14,12 @@ use Rattle.rl_defs.specs.Machine.History.{objects_in, in_cell_behind, in_cell}
 use Rattle.machine_laws.specs.Ledger.{LedgerFrame, Ledger, at}
 use Rattle.machine_laws.specs.LedgerRows.{Runs, give, remove, Row}
 use Rattle.machine_laws.specs.LedgerSound.{Owned, Placed}
-use Rattle.machine_laws.proofs.Sums.{at_same, at_other}
-use Rattle.machine_laws.proofs.Counts.{has_count, loses_one}
+use Rattle.machine_laws.proofs.Counts.{has_counted, loses_one}
 use Rattle.machine_laws.proofs.Owners.{top_root}
 use Rattle.machine_laws.proofs.OneStack.{at_each}
 use Rattle.machine_laws.proofs.CallRows.{turn}
 use Rattle.machine_laws.proofs.PlaceRows.{own_made}
+use Rattle.machine_laws.proofs.Rows.{at_same, at_other}
 
 -- what hangs is in its cell, and a cell of an object that is there holds nothing else
 pub record CellsAgreeIn (us : List Turn) (seat : ℕ → Option Placement) (next_object : ℕ) : Type 0 where
@@ -66,7 +66,7 @@ module _ (L : Load) (us : List Turn) (s : Ledger) (own : Owned L s) (p : Placed 
   moved : (t : ℕ) (f : LedgerFrame) (fs : List LedgerFrame) → Runs L s t f fs → (os : List ℕ) (x : Option Placement) → ((o : ℕ) → count o os ≤ count o f.own) → ((q k : ℕ) → x ≡ Some (Hung q k) → ⊥)
       → (o : ℕ) → (cond (has os o) x (s.seat o) ≡ s.seat o) ⊎ ((((w : Owner) × (s.seat o ≡ Some (Root w))) ⊎ (s.next_object ≤ o)) × ((q k : ℕ) → cond (has os o) x (s.seat o) ≡ Some (Hung q k) → ⊥))
   moved t f fs runs os x own_all stands o = elim (cases_Bool (has os o)) [
-    | inl is ↦ inr (inl (f.party, top_root L s own t f fs runs o (let a = own_all o in let b = has_count o os is in omega arith)), rw is stands)
+    | inl is ↦ inr (inl (f.party, top_root L s own t f fs runs o (let a = own_all o in let b = has_counted os o is in omega arith)), rw is stands)
     | inr is ↦ inl (rw is refl)
   ]
 
@@ -147,12 +147,8 @@ module _ (L : Load) (us : List Turn) (s : Ledger) (own : Owned L s) (p : Placed 
       (flat (entry.New t w o ty values) (at o (Some (Root w)) s.seat) (suc o) (λ q k y. refl) (let a = r.5 in omega arith) (moved_one o (Some (Root w)) (inr (let a = r.5 in omega arith)) (λ q k e. cc (e))))
   cells_row (entry.Drop t o) z r = subst (CellsAgree (turn (entry.Drop t o) [] ∷ us)) (sym r.5)
       (flat (entry.Drop t o) (at o None s.seat) s.next_object (λ q k y. refl) (omega arith) (moved_one o None (inl (r.0.party, top_root L s own t r.0 r.1 r.3 o (loses_one r.0.own o r.2 r.4))) (λ q k e. cc (e))))
-  cells_row (entry.Set t o place values) z r = subst (CellsAgree (turn (entry.Set t o place values) [] ∷ us)) (sym r.6) (quiet (entry.Set t o place values) (λ q k y. refl))
-  cells_row (entry.Wput t i place value) z r = subst (CellsAgree (turn (entry.Wput t i place value) [] ∷ us)) (sym r.6) (quiet (entry.Wput t i place value) (λ q k y. refl))
   cells_row (entry.Take t i slot o) z r = subst (CellsAgree (turn (entry.Take t i slot o) [] ∷ us)) (sym r.9) (quiet (entry.Take t i slot o) (λ q k y. refl))
   cells_row (entry.Put t i slot o) z r = subst (CellsAgree (turn (entry.Put t i slot o) [] ∷ us)) (sym r.9) (quiet (entry.Put t i slot o) (λ q k y. refl))
-  cells_row (entry.DevGet t o b) z r = subst (CellsAgree (turn (entry.DevGet t o b) [] ∷ us)) (sym r.6) (quiet (entry.DevGet t o b) (λ q k y. refl))
-  cells_row (entry.DevPut t b o) z r = subst (CellsAgree (turn (entry.DevPut t b o) [] ∷ us)) (sym r.6) (quiet (entry.DevPut t b o) (λ q k y. refl))
   cells_row (entry.Hang t o k v) z r = subst (CellsAgree (turn (entry.Hang t o k v) [] ∷ us)) (sym r.8)
       (hung t o k v r.0 r.1 r.3 (let a = r.5 o in let b = r.4 in omega arith) (loses_one r.0.own v r.2 r.5) r.6 r.7)
   cells_row (entry.Unhang t o k v) z r = subst (CellsAgree (turn (entry.Unhang t o k v) [] ∷ us)) (sym r.7) (unhung t o k v r.0.party r.5)
@@ -160,3 +156,4 @@ module _ (L : Load) (us : List Turn) (s : Ledger) (own : Owned L s) (p : Placed 
   cells_row (entry.Skip t number) z r = subst (CellsAgree (turn (entry.Skip t number) [] ∷ us)) (sym r.2) (quiet (entry.Skip t number) (λ q k y. refl))
   cells_row (entry.Done t) z r = subst (CellsAgree (turn (entry.Done t) [] ∷ us)) (sym r.2) (quiet (entry.Done t) (λ q k y. refl))
   cells_row (entry.Free o) z r = absurd r
+  cells_row other z r = subst (CellsAgree (turn other [] ∷ us)) (sym r.6) (quiet other (λ q k y. refl))

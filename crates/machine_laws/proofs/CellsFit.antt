@@ -26,8 +26,7 @@ zero_fits (kind.Num width.W16) = refl
 zero_fits (kind.Num width.W32) = refl
 zero_fits (kind.Num width.W64) = refl
 zero_fits (kind.Own s) = refl
-zero_fits (kind.Lent s) = refl
-zero_fits (kind.Cap t) = refl
+zero_fits other = refl
 
 zeros_fit : (kinds : List Kind) → cells_fit kinds (replicate (length kinds) 0) ≡ true
 zeros_fit [] = refl
@@ -82,8 +81,7 @@ word_kind (kind.Num width.W8) is = absurd cc
 word_kind (kind.Num width.W16) is = absurd cc
 word_kind (kind.Num width.W32) is = absurd cc
 word_kind (kind.Own s) is = absurd cc
-word_kind (kind.Lent s) is = absurd cc
-word_kind (kind.Cap t) is = absurd cc
+word_kind other is = absurd cc
 
 words_fit : (kinds : List Kind) (cells : List ℕ) → list_all (is_number width.W64) kinds ≡ true → length cells ≡ length kinds → list_all (fits_width width.W64) cells ≡ true → cells_fit kinds cells ≡ true
 words_fit [] [] wide same fit = refl

@@ -1,5 +1,6 @@
 -- What a client's own frame holds behind the answer to its call.
-use Rattle.std.proofs.Common.{◌≡◌, ℕ, zero, suc, true, List, [], ◌∷◌, length, Some, slice_get, refl, ap, subst, arith, inl, inr}
+use Rattle.std.proofs.Common.{◌≡◌, ℕ, zero, suc, true, List, [], ◌∷◌, length, Some, slice_get, refl, ap, subst, arith, inl, inr, sym}
+use Rattle.std.proofs.lemmas.Bool.{and_parts}
 use Rattle.rl_defs.specs.declared.values.Value.{Value}
 use Rattle.rl_defs.specs.declared.values.Value.TheVariants as value
 use Rattle.rl_defs.specs.declared.values.RpcCode.{RpcCode}
@@ -21,19 +22,16 @@ use Rattle.rl_defs.specs.Machine.NativeFits.{value_suits, values_suit}
 use Rattle.rl_defs.specs.Machine.Sound.{BindsName}
 use Rattle.rl_defs.specs.Machine.History.{objects_in}
 use Rattle.valid_loads.specs.ScriptFacts.{CallFits}
+use Rattle.rl_defs.proofs.CodeEntries.{as_many}
 use Rattle.machine_laws.specs.LedgerOf.{names_held}
 use Rattle.machine_laws.specs.LedgerRows.{Exchanged}
 use Rattle.machine_laws.specs.Plans.{Plans}
 use Rattle.machine_laws.specs.AtCall.{IsCallOf}
 use Rattle.machine_laws.proofs.ClientRows.{bind_none}
-use Rattle.machine_laws.proofs.CallerRanks.{and_true}
 use Rattle.machine_laws.proofs.NameBinds.{Unused, count_bound}
 
 pub are_length : (types : Typing) (kinds : List Kind) (values : List Value) → are_values types kinds values ≡ true → length values ≡ length kinds
-are_length types [] [] is = refl
-are_length types [] (v ∷ values) is = absurd cc
-are_length types (k ∷ kinds) [] is = absurd cc
-are_length types (k ∷ kinds) (v ∷ values) is = ap (λ n. suc n) (are_length types kinds values (and_true (fits_kind types (as_register k) (Some v)) (are_values types kinds values) is).1)
+are_length types kinds values is = sym (as_many types kinds values is)
 
 -- a value at a place suits the kind there
 pub suits_at : (types : Typing) (kinds : List Kind) (values : List Value) → values_suit types kinds values ≡ true → (i : ℕ) (v : Value) → slice_get values i ≡ Some v → (k : Kind) × (slice_get kinds i ≡ Some k) × (value_suits types k v ≡ true)
@@ -41,18 +39,18 @@ suits_at types [] [] is i v here = absurd cc
 suits_at types [] (w ∷ values) is i v here = absurd cc
 suits_at types (k ∷ kinds) [] is i v here = absurd cc
 suits_at types (k ∷ kinds) (w ∷ values) is zero v here =
-    let parts = and_true (value_suits types k w) (values_suit types kinds values) is in
+    let parts = and_parts (value_suits types k w) (values_suit types kinds values) is in
     let same : w ≡ v = cc in
     (k, refl, subst (λ x. value_suits types k x ≡ true) same parts.0)
-suits_at types (k ∷ kinds) (w ∷ values) is (suc i) v here = suits_at types kinds values (and_true (value_suits types k w) (values_suit types kinds values) is).1 i v here
+suits_at types (k ∷ kinds) (w ∷ values) is (suc i) v here = suits_at types kinds values (and_parts (value_suits types k w) (values_suit types kinds values) is).1 i v here
 
 -- no object is among values of which none is an object
 no_objects : (types : Typing) (kinds : List Kind) (values : List Value) → are_values types kinds values ≡ true → ((q s : ℕ) → slice_get kinds q ≡ Some (kind.Own s) → ⊥) → ((q s : ℕ) → slice_get kinds q ≡ Some (kind.Lent s) → ⊥) → (o : ℕ) → count o (objects_in values) ≡ 0
 no_objects types [] [] is none unlent o = refl
 no_objects types [] (v ∷ values) is none unlent o = absurd cc
 no_objects types (k ∷ kinds) [] is none unlent o = absurd cc
-no_objects types (k ∷ kinds) (value.Num n ∷ values) is none unlent o = no_objects types kinds values (and_true (fits_kind types (as_register k) (Some (value.Num n))) (are_values types kinds values) is).1 (λ q s here. none (suc q) s here) (λ q s here. unlent (suc q) s here) o
-no_objects types (k ∷ kinds) (value.Cap x ∷ values) is none unlent o = no_objects types kinds values (and_true (fits_kind types (as_register k) (Some (value.Cap x))) (are_values types kinds values) is).1 (λ q s here. none (suc q) s here) (λ q s here. unlent (suc q) s here) o
+no_objects types (k ∷ kinds) (value.Num n ∷ values) is none unlent o = no_objects types kinds values (and_parts (fits_kind types (as_register k) (Some (value.Num n))) (are_values types kinds values) is).1 (λ q s here. none (suc q) s here) (λ q s here. unlent (suc q) s here) o
+no_objects types (k ∷ kinds) (value.Cap x ∷ values) is none unlent o = no_objects types kinds values (and_parts (fits_kind types (as_register k) (Some (value.Cap x))) (are_values types kinds values) is).1 (λ q s here. none (suc q) s here) (λ q s here. unlent (suc q) s here) o
 no_objects types (kind.Own s ∷ kinds) (value.Obj p ∷ values) is none unlent o = absurd (none zero s refl)
 no_objects types (kind.Lent s ∷ kinds) (value.Obj p ∷ values) is none unlent o = absurd (unlent zero s refl)
 no_objects types (kind.Num w ∷ kinds) (value.Obj p ∷ values) is none unlent o = absurd cc

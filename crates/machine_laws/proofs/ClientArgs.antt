@@ -1,7 +1,7 @@
 -- What a client's call passes: arguments of the kinds of the method's parameters, each object moved once and none moved and lent.
 use Rattle.std.proofs.Common.{◌≡◌, ℕ, zero, suc, ◌<◌, ◌≤◌, ◌^◌, Bool, true, ◌&&◌, List, [], ◌∷◌, map, Option, Some, None, slice_get, refl, subst, ◌∙◌, arith}
 use Rattle.std.specs.List.{list_all, flat_map}
-use Rattle.std.proofs.lemmas.Bool.{eq-eqb, ltb-true, lt-ltb}
+use Rattle.std.proofs.lemmas.Bool.{eq-eqb, ltb-true, lt-ltb, and_parts}
 use Rattle.rl_defs.specs.declared.values.Value.{Value}
 use Rattle.rl_defs.specs.declared.values.Value.TheVariants as value
 use Rattle.rl_defs.specs.declared.tables.Kind.{Kind}
@@ -18,7 +18,6 @@ use Rattle.rl_defs.specs.Wanted.{Names, held, is_bound, used_by_arg, passed, len
 use Rattle.rl_defs.specs.Machine.NativeFits.{is_target, trait_if, value_suits, arg_suits, args_suit}
 use Rattle.rl_defs.specs.Machine.Sound.{BindsName}
 use Rattle.valid_loads.specs.ScriptFacts.{ArgFits, ArgsFit}
-use Rattle.machine_laws.proofs.CallerRanks.{and_true}
 
 -- the names that these arguments use are bound
 abbrev pub all_bound : Names → List ScriptArg → Bool
@@ -27,8 +26,8 @@ all_bound names args = list_all (λ k. is_bound (held names k)) (flat_map used_b
 bound_parts : (names : Names) (a : ScriptArg) (args : List ScriptArg) → all_bound names (a ∷ args) ≡ true → (all_bound names (a ∷ []) ≡ true) × (all_bound names args ≡ true)
 bound_parts names (given.Num n) args is = (refl, is)
 bound_parts names (given.Target x) args is = (refl, is)
-bound_parts names (given.Name k) args is = let parts = and_true (is_bound (held names k)) (all_bound names args) is in (rw parts.0 refl, parts.1)
-bound_parts names (given.Lent k) args is = let parts = and_true (is_bound (held names k)) (all_bound names args) is in (rw parts.0 refl, parts.1)
+bound_parts names (given.Name k) args is = let parts = and_parts (is_bound (held names k)) (all_bound names args) is in (rw parts.0 refl, parts.1)
+bound_parts names (given.Lent k) args is = let parts = and_parts (is_bound (held names k)) (all_bound names args) is in (rw parts.0 refl, parts.1)
 
 -- a number of a width is one of each wider
 wider : (v w : Width) (n : ℕ) → fits_width v n ≡ true → bits v ≤ bits w → fits_width w n ≡ true

@@ -1,7 +1,7 @@
 -- A client's call: its caller in the ledger, and what it passes.
 use Rattle.std.proofs.Common.{◌≡◌, ℕ, ◌-◌, ◌<◌, ◌≤◌, true, false, List, [], map, Some, slice_get, refl, ap, sym, subst, ◌∙◌, arith, inl, inr}
 use Rattle.std.specs.List.{list_any}
-use Rattle.std.proofs.lemmas.Bool.{cases_Bool}
+use Rattle.std.proofs.lemmas.Bool.{cases_Bool, and_parts}
 use Rattle.rl_defs.specs.declared.values.Value.TheVariants as value
 use Rattle.rl_defs.specs.declared.values.Arg.{Arg}
 use Rattle.rl_defs.specs.declared.tables.Kind.TheVariants as kind
@@ -22,11 +22,11 @@ use Rattle.machine_laws.specs.Shape.{Laid}
 use Rattle.machine_laws.specs.Fitting.{Fitting, NamesFit}
 use Rattle.machine_laws.proofs.Tops.{bottom, runs_client}
 use Rattle.machine_laws.proofs.Pushing.{thread_ledger, laid_thread}
-use Rattle.machine_laws.proofs.CallerRanks.{and_true, below_client}
+use Rattle.machine_laws.proofs.CallerRanks.{below_client}
 use Rattle.machine_laws.proofs.Wishes.{ClientWish}
 use Rattle.machine_laws.proofs.CallingRows.{Caller}
 use Rattle.machine_laws.proofs.CallSteps.{Called, ClientsCall}
-use Rattle.machine_laws.proofs.Counts.{has_none, has_count}
+use Rattle.machine_laws.proofs.Counts.{none_counted, has_counted}
 use Rattle.machine_laws.proofs.OwnRows.{at_most_once}
 use Rattle.machine_laws.proofs.NameCounts.{objects_of, held_some, held_apart, count_kept}
 use Rattle.machine_laws.proofs.NameKinds.{Commanding, commanding, held_suits}
@@ -57,7 +57,7 @@ module _ (L : Load) (s : State) (t : ℕ) (scripts : ScriptsStand L) (laid : Lai
   names = fits.names t thread wished.of
 
   bound : all_bound thread.names wished.given ≡ true
-  bound = (and_true (all_bound thread.names wished.given) true commands.can).0
+  bound = (and_parts (all_bound thread.names wished.given) true commands.can).0
 
   pub runs : Runs L (ledger_of L s) t (bottom t (Some thread)) []
   runs = runs_client L s t thread laid wished.of ready commands.alone
@@ -92,13 +92,13 @@ module _ (L : Load) (s : State) (t : ℕ) (scripts : ScriptsStand L) (laid : Lai
         let after = count_kept (moved_of args) o thread.names in
         elim (cases_Bool (has (moved_of args) o)) [
           | inl gone ↦
-              let some = has_count o (moved_of args) gone in
+              let some = has_counted (moved_of args) o gone in
               let x = moves_some thread.names wished.given o some in
               let mine = held_some thread.names x.name o x.holds in
               let none : count o (objects_of (map (kept (moved_of args)) thread.names)) ≡ 0 = rw gone at after in
               omega (arith, none, some, mine, moved_most o, once o)
           | inr stays ↦
-              let none = has_none o (moved_of args) stays in
+              let none = none_counted (moved_of args) o stays in
               let same : count o (objects_of (map (kept (moved_of args)) thread.names)) ≡ count o (objects_of thread.names) = rw stays at after in
               omega (arith, none, same)
         ];
@@ -107,7 +107,7 @@ module _ (L : Load) (s : State) (t : ℕ) (scripts : ScriptsStand L) (laid : Lai
         let mine = held_some thread.names y.name o y.holds in
         let after = count_kept (moved_of args) o thread.names in
         elim (cases_Bool (has (moved_of args) o)) [
-          | inl gone ↦ absurd (apart o (has_count o (moved_of args) gone) some)
+          | inl gone ↦ absurd (apart o (has_counted (moved_of args) o gone) some)
           | inr stays ↦ let same : count o (objects_of (map (kept (moved_of args)) thread.names)) ≡ count o (objects_of thread.names) = rw stays at after in inl (omega (arith, same, mine))
         ];
   }

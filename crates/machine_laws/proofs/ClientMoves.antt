@@ -1,6 +1,6 @@
 -- Which objects a client's arguments move and lend: those that the names hold.
-use Rattle.std.proofs.Common.{◌≡◌, ℕ, zero, suc, ◌+◌, ◌<◌, ◌≤◌, ◌==◌, List, [], ◌∷◌, map, Option, Some, None, slice_get, refl, ap, arith, inl, inr}
-use Rattle.std.proofs.lemmas.Bool.{cases_Bool, cases_eq, eqb-true}
+use Rattle.std.proofs.Common.{◌≡◌, ℕ, zero, suc, ◌<◌, ◌≤◌, ◌==◌, List, [], ◌∷◌, map, Option, Some, None, slice_get, refl, ap, arith, inl, inr}
+use Rattle.std.proofs.lemmas.Bool.{cases_Bool, cases_eq}
 use Rattle.rl_defs.specs.declared.values.Value.{Value}
 use Rattle.rl_defs.specs.declared.values.Value.TheVariants as value
 use Rattle.rl_defs.specs.declared.values.Arg.{Arg}
@@ -10,27 +10,11 @@ use Rattle.rl_defs.specs.declared.load.ScriptArg.TheVariants as given
 use Rattle.rl_defs.specs.Loans.{count}
 use Rattle.rl_defs.specs.Wanted.{Names, held, passed, lent, arg_of}
 use Rattle.rl_defs.specs.Crossing.{moved_of, lent_of}
-
-pub only_one : (p o : ℕ) → 0 < count o (p ∷ []) → p ≡ o
-only_one p o some = elim (cases_Bool (p == o)) [
-  | inl e ↦ eqb-true p o e
-  | inr e ↦ absurd (let z : count o (p ∷ []) ≡ 0 = rw e refl in omega (arith, some, z))
-]
+use Rattle.machine_laws.proofs.OwnEntries.{more_moved, more_lent}
+use Rattle.machine_laws.proofs.OwnActs.{is_it}
 
 one_most : (p o : ℕ) → count o (p ∷ []) ≤ 1
 one_most p o = elim (cases_Bool (p == o)) [ inl e ↦ rw e (omega arith) | inr e ↦ rw e (omega arith) ]
-
-moved_first : (o : ℕ) (a : Arg) (args : List Arg) → count o (moved_of (a ∷ args)) ≡ count o (moved_of (a ∷ [])) + count o (moved_of args)
-moved_first o (arg.Num n) args = omega arith
-moved_first o (arg.Moved p) args = omega arith
-moved_first o (arg.Lent p) args = omega arith
-moved_first o (arg.Cap x) args = omega arith
-
-lent_first : (o : ℕ) (a : Arg) (args : List Arg) → count o (lent_of (a ∷ args)) ≡ count o (lent_of (a ∷ [])) + count o (lent_of args)
-lent_first o (arg.Num n) args = omega arith
-lent_first o (arg.Moved p) args = omega arith
-lent_first o (arg.Lent p) args = omega arith
-lent_first o (arg.Cap x) args = omega arith
 
 moved_most : (o : ℕ) (a : Arg) → count o (moved_of (a ∷ [])) ≤ 1
 moved_most o (arg.Num n) = omega arith
@@ -43,7 +27,7 @@ moved_passed : (v : Option Value) (o : ℕ) → 0 < count o (moved_of (passed v 
 moved_passed None o some = absurd (omega (arith, some))
 moved_passed (Some (value.Num n)) o some = absurd (omega (arith, some))
 moved_passed (Some (value.Cap x)) o some = absurd (omega (arith, some))
-moved_passed (Some (value.Obj p)) o some = ap (λ q. Some (value.Obj q)) (only_one p o some)
+moved_passed (Some (value.Obj p)) o some = ap (λ q. Some (value.Obj q)) (is_it p o some)
 
 moved_lent : (v : Option Value) (o : ℕ) → 0 < count o (moved_of (lent v ∷ [])) → ⊥
 moved_lent None o some = omega (arith, some)
@@ -61,7 +45,7 @@ lent_lent : (v : Option Value) (o : ℕ) → 0 < count o (lent_of (lent v ∷ []
 lent_lent None o some = absurd (omega (arith, some))
 lent_lent (Some (value.Num n)) o some = absurd (omega (arith, some))
 lent_lent (Some (value.Cap x)) o some = absurd (omega (arith, some))
-lent_lent (Some (value.Obj p)) o some = ap (λ q. Some (value.Obj q)) (only_one p o some)
+lent_lent (Some (value.Obj p)) o some = ap (λ q. Some (value.Obj q)) (is_it p o some)
 
 -- the argument by which an object is moved, or lent
 pub record Moves (names : Names) (args : List ScriptArg) (o : ℕ) : Type 0 where
@@ -91,7 +75,7 @@ lends_one names (given.Lent k) args o some = record { at = zero; name = k; here 
 pub moves_some : (names : Names) (args : List ScriptArg) (o : ℕ) → 0 < count o (moved_of (map (arg_of names) args)) → Moves names args o
 moves_some names [] o some = absurd (omega (arith, some))
 moves_some names (a ∷ args) o some =
-    let split = moved_first o (arg_of names a) (map (arg_of names) args) in
+    let split = more_moved o (arg_of names a) (map (arg_of names) args) in
     elim (cases_eq (count o (moved_of (arg_of names a ∷ []))) 0) [
       | inl none ↦ let m = moves_some names args o (omega (arith, split, none, some)) in record { at = suc m.at; name = m.name; here = m.here; holds = m.holds }
       | inr here ↦ let m = moved_one names a o (omega (arith, here)) in record { at = zero; name = m.0; here = ap Some m.1; holds = m.2 }
@@ -100,7 +84,7 @@ moves_some names (a ∷ args) o some =
 pub lends_some : (names : Names) (args : List ScriptArg) (o : ℕ) → 0 < count o (lent_of (map (arg_of names) args)) → Lends names args o
 lends_some names [] o some = absurd (omega (arith, some))
 lends_some names (a ∷ args) o some =
-    let split = lent_first o (arg_of names a) (map (arg_of names) args) in
+    let split = more_lent o (arg_of names a) (map (arg_of names) args) in
     elim (cases_eq (count o (lent_of (arg_of names a ∷ []))) 0) [
       | inl none ↦ let m = lends_some names args o (omega (arith, split, none, some)) in record { at = suc m.at; name = m.name; here = m.here; holds = m.holds }
       | inr here ↦ lends_one names a args o (omega (arith, here))
@@ -111,7 +95,7 @@ pub moved_once : (names : Names) (args : List ScriptArg) (o : ℕ) → ((i j k l
     → count o (moved_of (map (arg_of names) args)) ≤ 1
 moved_once names [] o apart = omega arith
 moved_once names (a ∷ args) o apart =
-    let split = moved_first o (arg_of names a) (map (arg_of names) args) in
+    let split = more_moved o (arg_of names a) (map (arg_of names) args) in
     let most = moved_most o (arg_of names a) in
     let deeper = moved_once names args o (λ i j k l is holds is' holds'. (let e = apart (suc i) (suc j) k l is holds is' holds' in omega (arith, e))) in
     elim (cases_eq (count o (moved_of (map (arg_of names) args))) 0) [

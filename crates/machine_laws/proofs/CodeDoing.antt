@@ -1,5 +1,5 @@
 -- A code frame that acts: where it stands, what it may do, and what it has of its own before and behind its action.
-use Rattle.std.proofs.Common.{◌≡◌, ℕ, zero, suc, ◌<◌, ◌≤◌, true, List, [], ◌∷◌, length, Some, slice_get, refl, ap, ap₂, sym, subst, ◌∙◌, arith, inl, inr}
+use Rattle.std.proofs.Common.{◌≡◌, ℕ, zero, suc, ◌<◌, ◌≤◌, true, [], length, Some, refl, ap, ap₂, sym, subst, ◌∙◌, arith, inl, inr}
 use Rattle.rl_defs.specs.declared.code.Instr.{Instr}
 use Rattle.rl_defs.specs.declared.values.Cause.{Cause}
 use Rattle.rl_defs.specs.declared.frame.Action.{Action}
@@ -36,6 +36,7 @@ use Rattle.machine_laws.proofs.OwnWork.{settle_keeps}
 use Rattle.machine_laws.proofs.OwnActs.{ActsOwn, acts_own}
 use Rattle.machine_laws.proofs.OwnFits.{FitsAct, act_fits}
 use Rattle.machine_laws.proofs.OwnFunctions.{settle_function}
+use Rattle.machine_laws.proofs.Rows.{item_there}
 
 -- what the rules of interfaces leave in the tables
 pub has_tables : (L : Load) (k : ℕ) → Plans L → HasTables L.tables → HasTables (domain_of_load L k).tables
@@ -58,15 +59,10 @@ settles_so L s f at fuel regs act rest frame e = go (settle (domain_of_instance 
         let g : with_body f (body.Code stand.at stand.regs) ≡ frame = cc in
         record { stand = stand; settles = is ∙ ap₂ (λ x y. Before x y stand) a r; frame_is = sym g }
 
-there : {A : Type 0} (xs : List A) (k : ℕ) → k < length xs → (x : A) × (slice_get xs k ≡ Some x)
-there [] k lt = absurd (omega arith)
-there (y ∷ xs) zero lt = (y, refl)
-there (y ∷ xs) (suc k) lt = there xs k (omega arith)
-
 -- a load of 1 to the count of loads has its row
 pub load_there : (L : Load) (k : ℕ) → 0 < k → k ≤ length L.loads → (l : LoadRow) × (load_row L k ≡ Some l)
 load_there L zero pos le = absurd (omega arith)
-load_there L (suc k) pos le = there L.loads k (omega arith)
+load_there L (suc k) pos le = item_there L.loads k (omega arith)
 
 -- the domain of a live instance keeps the rules
 pub keeps_rules : (L : Load) (s : State) (i : ℕ) → Plans L → Fitting L s → is_live s i ≡ true → KeepsRules (domain_of_instance L s i)

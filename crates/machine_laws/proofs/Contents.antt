@@ -1,6 +1,7 @@
 -- The history tells the words and the slots.
-use Rattle.std.proofs.Common.{◌≡◌, ℕ, zero, suc, ◌<◌, ◌≤◌, ◌==◌, true, cond, ◌&&◌, List, [], ◌∷◌, Option, Some, None, refl, ap, sym, ◌∙◌, subst, arith, inl, inr, slice_get, slice_set}
+use Rattle.std.proofs.Common.{◌≡◌, ℕ, ◌<◌, ◌≤◌, ◌==◌, true, cond, ◌&&◌, List, [], ◌∷◌, Option, Some, None, refl, ap, sym, ◌∙◌, subst, arith, inl, inr, slice_get, slice_set}
 use Rattle.std.proofs.lemmas.Bool.{cases_eq, cases_Bool, eqb-true, eq-eqb, ne_eqb, and_parts, and_from, both_ways}
+use Rattle.std.proofs.lemmas.Option.{slice_get_within}
 use Rattle.rl_defs.specs.declared.values.Owner.TheVariants as owner
 use Rattle.rl_defs.specs.declared.entry.Entry.{Entry}
 use Rattle.rl_defs.specs.declared.entry.Entry.TheVariants as entry
@@ -11,15 +12,15 @@ use Rattle.rl_defs.specs.Machine.Seen.{domain_of_load, content, slots}
 use Rattle.rl_defs.specs.Machine.Steps.{Turn}
 use Rattle.rl_defs.specs.Machine.History.{word_behind, word_at, slot_behind, slot_at}
 use Rattle.rl_defs.specs.Machine.Untouched.{ActsItself, UntouchedEntry}
+use Rattle.rl_defs.proofs.Places.{get_set_other, get_set_same}
 use Rattle.machine_laws.specs.Ledger.{LedgerFrame, Ledger, at}
 use Rattle.machine_laws.specs.LedgerRows.{Runs, IsSlot, Row}
 use Rattle.machine_laws.specs.LedgerSound.{Owned, Placed, IsPlan}
-use Rattle.machine_laws.proofs.Sums.{at_same, at_other}
-use Rattle.machine_laws.proofs.Calls.{CallsAgree}
+use Rattle.machine_laws.proofs.Calls.{CallsAgree, ground, party_opened}
 use Rattle.machine_laws.proofs.CallRows.{turn}
-use Rattle.machine_laws.proofs.PlaceRows.{ground, party_opened}
 use Rattle.machine_laws.proofs.HeapRows.{HeapAgrees, acts_for}
 use Rattle.machine_laws.proofs.ShownCalls.{actor_live}
+use Rattle.machine_laws.proofs.Rows.{at_same, at_other}
 
 pub same_list : (xs ys : List ℕ) → same_bytes xs ys ≡ true → xs ≡ ys
 same_list [] [] e = refl
@@ -34,18 +35,6 @@ same_list (x ∷ xs) (y ∷ ys) e =
 pub same_as_itself : (xs : List ℕ) → same_bytes xs xs ≡ true
 same_as_itself [] = refl
 same_as_itself (x ∷ xs) = and_from (x == x) (same_bytes xs xs) (eq-eqb x x refl) (same_as_itself xs)
-
-pub get_same : (ks : List (Option ℕ)) (k : ℕ) (x y : Option ℕ) → slice_get ks k ≡ Some x → slice_get (slice_set ks k y) k ≡ Some y
-get_same [] k x y is = absurd cc
-get_same (z ∷ ks) zero x y is = refl
-get_same (z ∷ ks) (suc k) x y is = get_same ks k x y is
-
-pub get_other : (ks : List (Option ℕ)) (k j : ℕ) (y : Option ℕ) → ((j ≡ k) → ⊥) → slice_get (slice_set ks k y) j ≡ slice_get ks j
-get_other [] k j y ne = refl
-get_other (z ∷ ks) zero zero y ne = absurd (ne refl)
-get_other (z ∷ ks) zero (suc j) y ne = refl
-get_other (z ∷ ks) (suc k) zero y ne = refl
-get_other (z ∷ ks) (suc k) (suc j) y ne = get_other ks k j y (λ e. ne (ap suc e))
 
 -- the history tells each word, and what is in each slot by the slot's name
 pub record ContentsAgreeIn (L : Load) (us : List Turn) (loads : ℕ → ℕ) (words : ℕ → ℕ → ℕ) (slots : ℕ → List (Option ℕ)) (next_instance : ℕ) : Type 0 where
@@ -85,13 +74,13 @@ module _ (L : Load) (plan : IsPlan L) (us : List Turn) (s : Ledger) (own : Owned
         | inl same ↦ (
             let e' = same_list name other same in
             let place : m ≡ k = plan.slots k m (s.loads i) name (rw e' is_other) is_name in
-            rw (same, place, get_same (s.slots i) k a b full) refl)
+            rw (same, place, get_set_same (s.slots i) k b (slice_get_within (s.slots i) k a full)) refl)
         | inr differ ↦ (
             let apart : (m ≡ k) → ⊥ = λ place. (
             let is_second = rw place at is_other in
             let e' : name ≡ other = cc (is_name, is_second) in
             both_ways (same_bytes name other) differ (subst (λ (ys : List ℕ). same_bytes name ys ≡ true) e' (same_as_itself name))) in
-            rw (differ, get_other (s.slots i) k m b apart) (x.slots_told i m other opened is_other))
+            rw (differ, get_set_other (s.slots i) k m b apart) (x.slots_told i m other opened is_other))
       ]
 
   empty : (slots : List (Option ℕ)) (k : ℕ) → ((o : ℕ) → slice_get slots k ≡ Some (Some o) → ⊥) → (o : Option (Option ℕ)) → slice_get slots k ≡ o → content o ≡ None
@@ -100,7 +89,7 @@ module _ (L : Load) (plan : IsPlan L) (us : List Turn) (s : Ledger) (own : Owned
   empty slots k none (Some (Some o)) is = absurd (none o is)
 
   opened : (t : ℕ) (f : LedgerFrame) (fs : List LedgerFrame) (i : ℕ) → Runs L s t f fs → f.party ≡ owner.Instance i → i < s.next_instance
-  opened t f fs i runs is = (party_opened L s own p t f fs i (ground L s own p t f fs runs.some runs.within runs.stack) is).1
+  opened t f fs i runs is = (party_opened L s.loads s.next_instance s.next_call t f fs i (ground L s p t f fs runs.some runs.within runs.stack) is).1
 
   pub contents_row : (e : Entry) (z : Ledger) → Row L s e z → ContentsAgree L (turn e frees ∷ us) z
   contents_row (entry.Call t n x i m args) z r = subst (ContentsAgree L (turn (entry.Call t n x i m args) frees ∷ us)) (sym r.4) (told_still (entry.Call t n x i m args) (λ i k n. refl) (λ i k o. refl))
@@ -156,7 +145,7 @@ module _ (L : Load) (us : List Turn) (s : Ledger) (own : Owned L s) (c : CallsAg
   acts_itself t f fs i runs is = record { itself = acts_for L us s own c p h t f fs runs ∙ is; lives = actor_live L us s own c p h t f fs i runs is }
 
   slot_shows : (t : ℕ) (f : LedgerFrame) (fs : List LedgerFrame) (i k : ℕ) (name : List ℕ) (a : Option ℕ) → Runs L s t f fs → f.party ≡ owner.Instance i → IsSlot L s i k name → slice_get (s.slots i) k ≡ Some a → slot_at us i name ≡ a
-  slot_shows t f fs i k name a runs is is_name full = x.slots_told i k name (party_opened L s own p t f fs i (ground L s own p t f fs runs.some runs.within runs.stack) is).1 is_name ∙ ap content full
+  slot_shows t f fs i k name a runs is is_name full = x.slots_told i k name (party_opened L s.loads s.next_instance s.next_call t f fs i (ground L s p t f fs runs.some runs.within runs.stack) is).1 is_name ∙ ap content full
 
   pub untouched : (e : Entry) (z : Ledger) → Row L s e z → UntouchedEntry us e
   untouched (entry.Wput t i place value) z r = acts_itself t r.0 r.1 i r.3 r.4

@@ -1,9 +1,9 @@
 -- Counts of numbers in lists from which some were taken.
 use Rattle.std.proofs.Common.{◌≡◌, ◌≢◌, ℕ, ◌+◌, ◌≤◌, true, false, not, List, [], ◌∷◌, ◌++◌, filter, refl, subst, arith, inl, inr}
-use Rattle.std.proofs.lemmas.Bool.{cases_Bool, cases_eq, ne_eqb}
+use Rattle.std.proofs.lemmas.Bool.{cases_Bool, ne_eqb}
 use Rattle.rl_defs.specs.Loans.{count}
 use Rattle.rl_defs.specs.Crossing.{has}
-use Rattle.machine_laws.proofs.OwnEntries.{counted_has, has_counted}
+use Rattle.machine_laws.proofs.Counts.{has_counted, none_counted}
 
 pub count_append : (p : ℕ) (xs ys : List ℕ) → count p (xs ++ ys) ≡ count p xs + count p ys
 count_append p [] ys = omega arith
@@ -31,12 +31,6 @@ count_gone os p (x ∷ xs) out =
           let apart : x ≢ p = λ e. (let h : has os p ≡ false = subst (λ n. has os n ≡ false) e stays in let h' = out in cc) in
           rw (stays, ne_eqb x p apart) (omega (arith, deeper))
     ]
-
-pub none_counted : (os : List ℕ) (p : ℕ) → has os p ≡ false → count p os ≡ 0
-none_counted os p out = elim (cases_eq (count p os) 0) [
-  | inl e ↦ e
-  | inr ne ↦ absurd (let h = counted_has os p (omega (arith, ne)) in cc)
-]
 
 -- taken once each from a list that has each at most once
 pub taken : (os : List ℕ) (p : ℕ) (xs : List ℕ) → count p xs ≤ 1 → count p os ≤ count p xs → count p (filter (λ q. not (has os q)) xs) + count p os ≡ count p xs

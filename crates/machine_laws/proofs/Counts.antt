@@ -11,30 +11,30 @@ one_here o = rw (eq-eqb o o refl) refl
 pub none_there : (o q : ℕ) → ((q ≡ o) → ⊥) → count q (o ∷ []) ≡ 0
 none_there o q ne = rw (ne_eqb o q (λ e. ne (sym e))) refl
 
-pub has_count : (q : ℕ) (os : List ℕ) → has os q ≡ true → 0 < count q os
-has_count q [] e = absurd cc
-has_count q (o ∷ os) e = elim (cases_Bool (o == q)) [
+pub has_counted : (os : List ℕ) (q : ℕ) → has os q ≡ true → 0 < count q os
+has_counted [] q e = absurd cc
+has_counted (o ∷ os) q e = elim (cases_Bool (o == q)) [
   | inl is ↦ rw is (omega arith)
-  | inr is ↦ let e' : has os q ≡ true = rw is at e in let r = has_count q os e' in omega arith
+  | inr is ↦ let e' : has os q ≡ true = rw is at e in let r = has_counted os q e' in omega arith
 ]
 
-pub has_none : (q : ℕ) (os : List ℕ) → has os q ≡ false → count q os ≡ 0
-has_none q [] e = refl
-has_none q (o ∷ os) e = elim (cases_Bool (o == q)) [
+pub none_counted : (os : List ℕ) (q : ℕ) → has os q ≡ false → count q os ≡ 0
+none_counted [] q e = refl
+none_counted (o ∷ os) q e = elim (cases_Bool (o == q)) [
   | inl is ↦ absurd (let e' : true ≡ false = rw is at e in cc)
-  | inr is ↦ rw is (let e' : has os q ≡ false = rw is at e in let r = has_none q os e' in omega arith)
+  | inr is ↦ rw is (let e' : has os q ≡ false = rw is at e in let r = none_counted os q e' in omega arith)
 ]
 
 pub has_cond : {X : Type 0} (P : X → Type 0) (q : ℕ) (os : List ℕ) (x y : X) → (0 < count q os → P x) → (count q os ≡ 0 → P y) → P (cond (has os q) x y)
 has_cond P q os x y here there = elim (cases_Bool (has os q)) [
-  | inl e ↦ rw e (here (has_count q os e))
-  | inr e ↦ rw e (there (has_none q os e))
+  | inl e ↦ rw e (here (has_counted os q e))
+  | inr e ↦ rw e (there (none_counted os q e))
 ]
 
-pub count_has : (q : ℕ) (os : List ℕ) → 0 < count q os → has os q ≡ true
-count_has q os some = elim (cases_Bool (has os q)) [
+pub counted_has : (os : List ℕ) (q : ℕ) → 0 < count q os → has os q ≡ true
+counted_has os q some = elim (cases_Bool (has os q)) [
   | inl e ↦ e
-  | inr e ↦ absurd (let none = has_none q os e in omega arith)
+  | inr e ↦ absurd (let none = none_counted os q e in omega arith)
 ]
 
 pub loses_one : (own : List ℕ) (o : ℕ) (left : List ℕ) → Exchanged own (o ∷ []) [] left → 0 < count o own

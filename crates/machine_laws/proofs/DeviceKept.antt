@@ -1,5 +1,6 @@
 -- The device keeps its blocks behind each row, each of 64 words.
 use Rattle.std.proofs.Common.{◌≡◌, ℕ, zero, suc, ◌⊎◌, inl, inr, true, List, [], ◌∷◌, Option, Some, None, slice_get, slice_set, refl, ap, sym, subst, ◌∙◌}
+use Rattle.std.proofs.lemmas.List.{length-set}
 use Rattle.rl_defs.specs.declared.tables.Width.TheVariants as width
 use Rattle.rl_defs.specs.declared.entry.Entry.{Entry}
 use Rattle.rl_defs.specs.declared.entry.Entry.TheVariants as entry
@@ -14,7 +15,6 @@ use Rattle.machine_laws.specs.Shape.{Laid}
 use Rattle.machine_laws.specs.Plans.{Plans}
 use Rattle.machine_laws.specs.Registers.{HasTables}
 use Rattle.machine_laws.specs.Fitting.{BlockFits, DeviceFits, Fitting}
-use Rattle.machine_laws.proofs.Rows.{length_set}
 use Rattle.machine_laws.proofs.Moves.{IsSave, Moves, row_moves}
 use Rattle.machine_laws.proofs.CellsFit.{cells_block}
 use Rattle.machine_laws.proofs.ObjectsKept.{does_fit}
@@ -65,7 +65,7 @@ module _ (L : Load) (s : State) (plans : Plans L) (tables : HasTables L.tables) 
       let d = makes.1 in
       let whole = held_block o (does_fit plans tables laid fits (λ c e. cc) d) in
       subst (DeviceFits L) (ap (λ (z : State). z.blocks) (sym d.becomes)) (record {
-        count = length_set s.blocks b (cells_in (object_of s o)) ∙ fits.device.count;
+        count = length-set s.blocks b (cells_in (object_of s o)) ∙ fits.device.count;
         each = λ j cells is. elim (set_block s.blocks b j (cells_in (object_of s o)) cells is) [
           | inl new ↦ subst BlockFits (sym new) whole
           | inr old ↦ fits.device.each j cells old

@@ -30,18 +30,7 @@ use Rattle.machine_laws.proofs.CodeDoing.{NotTrap, CodeDoes, has_tables, keeps_r
 
 pub pays_of : (lent : List ℕ) (old new : Registers) (act : Action) → NotTrap act → PaysAct lent old new act → Pays lent old new act
 pays_of lent old new (action.Trap c) no_trap pays = absurd (no_trap c refl)
-pays_of lent old new (action.New ty) no_trap pays = pays
-pays_of lent old new (action.Drop o) no_trap pays = pays
-pays_of lent old new (action.Set o k values) no_trap pays = pays
-pays_of lent old new (action.Wput k v) no_trap pays = pays
-pays_of lent old new (action.Take k) no_trap pays = pays
-pays_of lent old new (action.Put k o) no_trap pays = pays
-pays_of lent old new (action.DevGet o b) no_trap pays = pays
-pays_of lent old new (action.DevPut b o) no_trap pays = pays
-pays_of lent old new (action.Hang q k o) no_trap pays = pays
-pays_of lent old new (action.Unhang q k) no_trap pays = pays
-pays_of lent old new (action.Call x m args) no_trap pays = pays
-pays_of lent old new (action.Ret results) no_trap pays = pays
+pays_of lent old new other no_trap pays = pays
 
 -- Code behind an answer: where it stands, and what it has.
 pub record CodeAfter (types : Typing) (L : Load) (d : Domain) (f after : StackFrame) (act : Action) (a : Answer) (regs : Registers) : Type 0 where

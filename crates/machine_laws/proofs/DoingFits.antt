@@ -1,6 +1,6 @@
 -- A frame that did something fits behind it, and so does its stack.
-use Rattle.std.proofs.Common.{◌≡◌, ◌≢◌, ℕ, ◌-◌, ◌<◌, ◌≤◌, Bool, true, false, ◌||◌, List, [], ◌∷◌, ◌++◌, length, slice_set, refl, ap, sym, subst, ◌∙◌, arith, inl, inr}
-use Rattle.std.proofs.lemmas.Bool.{cases_eq}
+use Rattle.std.proofs.Common.{◌≡◌, ◌≢◌, ℕ, ◌-◌, ◌<◌, ◌≤◌, true, false, List, [], ◌∷◌, ◌++◌, length, slice_set, refl, ap, sym, subst, ◌∙◌}
+use Rattle.std.proofs.lemmas.Bool.{or_left}
 use Rattle.rl_defs.specs.declared.entry.Entry.{Entry}
 use Rattle.rl_defs.specs.declared.frame.Action.{Action}
 use Rattle.rl_defs.specs.declared.frame.Action.TheVariants as action
@@ -32,38 +32,24 @@ use Rattle.machine_laws.specs.Fitting.{BodyFits, StackFits, Fitting}
 use Rattle.machine_laws.proofs.Rows.{row_set_same, row_set_other}
 use Rattle.machine_laws.proofs.Stacks.{top_splits}
 use Rattle.machine_laws.proofs.Seats.{IsIn}
-use Rattle.machine_laws.proofs.Tops.{client_within}
+use Rattle.machine_laws.proofs.Tops.{client_stack}
 use Rattle.machine_laws.proofs.Types.{AnyHow, structs_same, stays_sweep}
 use Rattle.machine_laws.proofs.Retyping.{body_objects, has_object, register_has, choice_kept}
 use Rattle.machine_laws.proofs.Present.{present}
 use Rattle.machine_laws.proofs.FrameRows.{doing, actor, actor_after}
-use Rattle.machine_laws.proofs.StackFits.{stack_kept}
 use Rattle.machine_laws.proofs.LaidRows.{laid_row}
 use Rattle.machine_laws.proofs.OwnEntries.{stand_retyped}
 use Rattle.machine_laws.proofs.OwnAnswers.{Unlent}
 use Rattle.machine_laws.proofs.CodeDoing.{body_fits}
 use Rattle.machine_laws.proofs.OwnDoing.{IsDone, Answered, code_went, native_went}
-use Rattle.machine_laws.proofs.Agreeing.{laid_z, same_agree, below_kept}
+use Rattle.machine_laws.proofs.Agreeing.{laid_z, all_fit, changed_fits}
 
 -- the same choice, whatever the frame's body
 pub choice_moved : (L : Load) (s : State) (f : StackFrame) (b : FrameBody Action) (held : List ℕ) (act : Action) → CanChoose L s f held act → CanChoose L s (with_body f b) held act
-choice_moved L s f b held (action.Trap c) can = can
-choice_moved L s f b held (action.New ty) can = can
-choice_moved L s f b held (action.Drop o) can = can
-choice_moved L s f b held (action.Set o k values) can = can
 choice_moved L s f b held (action.Wput k v) can = record { inside = can.inside; width = can.width }
 choice_moved L s f b held (action.Call x m args) can = record { import = can.import; bound = can.bound; method = can.method; row = can.row; suits = can.suits; moves = can.moves; lends = can.lends; once = can.once; apart = can.apart; room = can.room }
 choice_moved L s f b held (action.Ret results) can = record { method = can.method; row = can.row; suits = can.suits; all = can.all }
-choice_moved L s f b held (action.Take k) can = can
-choice_moved L s f b held (action.Put k o) can = can
-choice_moved L s f b held (action.DevGet o k) can = can
-choice_moved L s f b held (action.DevPut k o) can = can
-choice_moved L s f b held (action.Hang q k o) can = can
-choice_moved L s f b held (action.Unhang q k) can = can
-
-or_first : (a b : Bool) → a ≡ true → (a || b) ≡ true
-or_first true b e = refl
-or_first false b e = absurd cc
+choice_moved L s f b held other can = can
 
 -- A frame with new code on top of a stack of the new state fits there, where its registers fit a typing that agrees.
 pub code_on_top : (L : Load) (z : State) (t : ℕ) (below : List StackFrame) (f after : StackFrame) (types : Typing) (d : Domain) (at : ℕ) (regs : Registers) → Laid L z → Owned L (ledger_of L z) → after ≡ with_body f (body.Code at regs) → stack z t ≡ below ++ after ∷ [] → is_live z after.instance ≡ true
@@ -87,7 +73,7 @@ code_on_top L z t below f after types d at regs laid owned is here lives domain 
 
     re : Retyped types (types_of L z) regs
     re = record {
-      objects = λ r o h. typed o (present L z laid owned t o below [] after here lives (subst (λ (g : StackFrame). has_object g o ≡ true) (sym is) (or_first (has (body_objects (body.Code at regs)) o) (has f.lent o) (register_has regs r o h))));
+      objects = λ r o h. typed o (present L z laid owned t o below [] after here lives (subst (λ (g : StackFrame). has_object g o ≡ true) (sym is) (or_left (has (body_objects (body.Code at regs)) o) (has f.lent o) (register_has regs r o h))));
       targets = traits;
     }
 
@@ -118,7 +104,7 @@ module _ (L : Load) (s : State) (e : Entry) (made : State) (plans : Plans L) (ta
     below = below_top (stack s t)
 
     within : (0 < t) × (t ≤ length s.stacks)
-    within = let w = client_within L s t d.thread laid d.of in (w.0, (let l = laid.stacks in let b = w.1 in omega (arith, l, b)))
+    within = client_stack L s t d.thread laid d.of
 
     pub stacks_made : made.stacks ≡ slice_set s.stacks (t - 1) (below ++ d.after ∷ [])
     stacks_made = ap (λ (m : State). m.stacks) d.becomes ∙ stacks _
@@ -153,11 +139,6 @@ module _ (L : Load) (s : State) (e : Entry) (made : State) (plans : Plans L) (ta
             native_on_top L made t below f d.after (held_after kept a held) got.0 (laid_row L s e made laid r) (laid_z L s e made laid owned placed r owned') owned' got.1 stack_here lives native got.2
 
     pub doing_fits : (u : ℕ) → StackFits L z (stack z u)
-    doing_fits u = elim (cases_eq u t) [
-      | inl is ↦
-          let split = top_splits (stack s t) f (doing laid ready d).on_top in
-          let all' = below_kept L s e made laid owned placed r owned' t f below [] (d.after ∷ []) split stack_here (subst (StackFits L s) split (fits.bodies t)) in
-          let same = actor_after laid ready d in
-          subst (λ n. StackFits L z (stack z n)) (sym is) (subst (StackFits L z) (sym stack_here) (all' d.after [] (ap (λ (g : StackFrame). g.target) same) (ap (λ (g : StackFrame). g.method) same) (ap (λ (g : StackFrame). g.args) same) (after_fits, tt)))
-      | inr ne ↦ subst (StackFits L z) (sym (stack_there u ne)) (stack_kept L s z (stack s u) (same_agree L s e made laid owned placed r owned' u (stack_there u ne)) (fits.bodies u))
-    ]
+    doing_fits = all_fit L s e made laid owned placed r owned' t
+        (changed_fits L s e made laid owned placed r owned' t f d.after below [] [] (top_splits (stack s t) f (doing laid ready d).on_top) stack_here (actor_after laid ready d) (fits.bodies t) (after_fits, tt))
+        stack_there fits.bodies

@@ -1,5 +1,5 @@
 -- Stacks fit behind each thing that a frame does.
-use Rattle.std.proofs.Common.{◌≡◌, ◌≢◌, ℕ, true, List, Some, refl, ap, sym, subst, ◌∙◌, arith, inl, inr}
+use Rattle.std.proofs.Common.{◌≡◌, ◌≢◌, ℕ, true, List, Some, refl, ap, sym, ◌∙◌, arith, inl, inr}
 use Rattle.std.proofs.lemmas.Bool.{eq-eqb, ne_eqb}
 use Rattle.rl_defs.specs.declared.values.Owner.{Owner}
 use Rattle.rl_defs.specs.declared.entry.Entry.{Entry}
@@ -22,14 +22,13 @@ use Rattle.machine_laws.specs.Fitting.{StackFits, Fitting}
 use Rattle.machine_laws.proofs.Seats.{IsIn}
 use Rattle.machine_laws.proofs.Types.{Unchanged, AnyHow, structs_same, stays_sweep}
 use Rattle.machine_laws.proofs.FrameRows.{actor}
-use Rattle.machine_laws.proofs.StackFits.{stack_kept}
 use Rattle.machine_laws.proofs.OwnDoing.{IsDone}
 use Rattle.machine_laws.proofs.FrameSteps.{loads_same, went_answer, new_load, new_answer, new_unlent, one_unlent, take_load, take_answer, take_unlent, unhang_load, unhang_answer, unhang_seat, types_with}
 use Rattle.machine_laws.proofs.Unlent.{hung_unlent}
 use Rattle.machine_laws.proofs.Moves.{IsNew}
 use Rattle.machine_laws.proofs.LaidRows.{laid_row}
 use Rattle.machine_laws.proofs.StaysRows.{stays_swept, new_stays}
-use Rattle.machine_laws.proofs.Agreeing.{same_agree}
+use Rattle.machine_laws.proofs.Agreeing.{other_fits}
 use Rattle.machine_laws.proofs.DoingFits.{doing_fits}
 
 module _ (L : Load) (s : State) (e : Entry) (made : State) (plans : Plans L) (tables : HasTables L.tables) (laid : Laid L s) (owned : Owned L (ledger_of L s)) (placed : Placed L (ledger_of L s)) (fits : Fitting L s) (r : RowOf L s e made) (owned' : Owned L (ledger_of L (sweep_state made))) where
@@ -44,7 +43,7 @@ module _ (L : Load) (s : State) (e : Entry) (made : State) (plans : Plans L) (ta
   pub still_fits : made.stacks ≡ s.stacks → (u : ℕ) → StackFits L z (stack z u)
   still_fits same u =
       let here : stack z u ≡ stack s u = ap (λ st. frames_of (row st u)) same in
-      subst (StackFits L z) (sym here) (stack_kept L s z (stack s u) (same_agree L s e made laid owned placed r owned' u here) (fits.bodies u))
+      other_fits L s e made laid owned placed r owned' u here (fits.bodies u)
 
   module _ (t : ℕ) (ready : is_undone (row s.threads t) ≡ true) where
     -- behind an action that is answered by `Went`

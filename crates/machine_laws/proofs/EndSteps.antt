@@ -1,6 +1,7 @@
 -- Returns, refusals, unwound calls, calls issued again and reloads, as they are made, are rows of the ledger.
-use Rattle.std.proofs.Common.{◌≡◌, ℕ, zero, suc, ◌-◌, ◌<◌, ◌≤◌, Bool, true, false, if◌then◌else◌, ◌&&◌, ◌⊎◌, List, [], ◌∷◌, length, Option, Some, None, slice_get, refl, ap, ap₂, sym, subst, ◌∙◌, arith, inl, inr}
+use Rattle.std.proofs.Common.{◌≡◌, ℕ, suc, ◌-◌, ◌<◌, Bool, true, false, if◌then◌else◌, ◌&&◌, ◌⊎◌, List, [], ◌∷◌, Option, Some, None, slice_get, refl, ap, ap₂, sym, subst, ◌∙◌, arith, inl, inr, ◌≤◌, length}
 use Rattle.std.specs.List.{filter_map}
+use Rattle.std.proofs.lemmas.Bool.{and_parts, or_parts}
 use Rattle.rl_defs.specs.declared.values.Arg.{Arg}
 use Rattle.rl_defs.specs.declared.values.Arg.TheVariants as arg
 use Rattle.rl_defs.specs.declared.values.Value.{Value}
@@ -14,8 +15,7 @@ use Rattle.rl_defs.specs.declared.frame.Action.TheVariants as action
 use Rattle.rl_defs.specs.declared.frame.Answer.{Answer}
 use Rattle.rl_defs.specs.declared.frame.Answer.TheVariants as answer
 use Rattle.rl_defs.specs.declared.load.Load.{Load}
-use Rattle.rl_defs.specs.declared.load.LoadRow.{LoadRow}
-use Rattle.rl_defs.specs.Domains.{load_row, load_of_target, method_of}
+use Rattle.rl_defs.specs.Domains.{load_of_target, method_of}
 use Rattle.rl_defs.specs.CodeFits.{Typing}
 use Rattle.rl_defs.specs.State.{State, StackFrame, Object, Thread, Root, row, is_live, current, stack, with_thread}
 use Rattle.rl_defs.specs.Loans.{count}
@@ -38,19 +38,20 @@ use Rattle.machine_laws.specs.Fitting.{CallFits, CallsFit, Fitting}
 use Rattle.machine_laws.proofs.Objects.{rises_map}
 use Rattle.machine_laws.proofs.Rows.{row_set_same, row_within}
 use Rattle.machine_laws.proofs.Stacks.{top_splits}
-use Rattle.machine_laws.proofs.Tops.{client_within, runs_frame}
+use Rattle.machine_laws.proofs.Tops.{client_within, runs_frame, client_stack}
 use Rattle.machine_laws.proofs.Acting.{acts_as}
 use Rattle.machine_laws.proofs.Present.{own_root, seated}
-use Rattle.machine_laws.proofs.CallerRanks.{and_true, or_false, and_false, free_to_enter}
+use Rattle.machine_laws.proofs.CallerRanks.{and_false, free_to_enter}
 use Rattle.machine_laws.proofs.Pushing.{laid_stack, laid_thread}
 use Rattle.machine_laws.proofs.EndingRows.{return_row, unwound_row, again_row}
 use Rattle.machine_laws.proofs.ReloadRow.{reload_row}
 use Rattle.machine_laws.proofs.StackFits.{calls_back}
-use Rattle.machine_laws.proofs.OwnEntries.{has_counted}
 use Rattle.machine_laws.proofs.OwnFits.{results_are_values}
 use Rattle.machine_laws.proofs.CallSteps.{ClientsCall, called, begun_entry, not_waiting}
 use Rattle.machine_laws.proofs.WaitingAnswers.{popped_stack}
 use Rattle.machine_laws.proofs.ReturnSteps.{returns_well, own_unlent, ClientGets, PoppedTo, gets}
+use Rattle.machine_laws.proofs.CodeDoing.{load_there}
+use Rattle.machine_laws.proofs.Counts.{has_counted}
 
 -- the thread of a client that isn't done
 pub thread_there : (s : State) (t : ℕ) → is_undone (row s.threads t) ≡ true → (thread : Thread) × (row s.threads t ≡ Some thread)
@@ -59,6 +60,9 @@ thread_there s t is = go (row s.threads t) refl
     go : (found : Option Thread) → row s.threads t ≡ found → (thread : Thread) × (row s.threads t ≡ Some thread)
     go None e = absurd (let h : is_undone None ≡ true = rw e at is in cc)
     go (Some th) e = (th, e)
+
+pub ready_within : (L : Load) (s : State) (t : ℕ) → Laid L s → is_undone (row s.threads t) ≡ true → (0 < t) × (t ≤ length s.stacks)
+ready_within L s t laid is = let th = thread_there s t is in client_stack L s t th.0 laid th.1
 
 pub laid_given : (L : Load) (s : State) (w : Owner) (os : List ℕ) → Laid L s → Laid L (passed_to w os s)
 laid_given L s w os laid = record {
@@ -91,9 +95,9 @@ loads_by s z same i = ap (λ is'. Rattle.rl_defs.specs.Wanted.load_of_instance (
 -- a call that may be issued again moves nothing
 pub moves_nothing : (types : Typing) (kinds : List Kind) (args : List Arg) → ((p ty : ℕ) → slice_get kinds p ≡ Some (kind.Own ty) → ⊥) → args_stand types kinds args ≡ true → moved_of args ≡ []
 moves_nothing types [] [] none stand = refl
-moves_nothing types (k ∷ kinds) (arg.Num n ∷ args) none stand = moves_nothing types kinds args (λ p ty e. none (suc p) ty e) (and_true (arg_stands types k (arg.Num n)) (args_stand types kinds args) stand).1
-moves_nothing types (k ∷ kinds) (arg.Lent o ∷ args) none stand = moves_nothing types kinds args (λ p ty e. none (suc p) ty e) (and_true (arg_stands types k (arg.Lent o)) (args_stand types kinds args) stand).1
-moves_nothing types (k ∷ kinds) (arg.Cap x ∷ args) none stand = moves_nothing types kinds args (λ p ty e. none (suc p) ty e) (and_true (arg_stands types k (arg.Cap x)) (args_stand types kinds args) stand).1
+moves_nothing types (k ∷ kinds) (arg.Num n ∷ args) none stand = moves_nothing types kinds args (λ p ty e. none (suc p) ty e) (and_parts (arg_stands types k (arg.Num n)) (args_stand types kinds args) stand).1
+moves_nothing types (k ∷ kinds) (arg.Lent o ∷ args) none stand = moves_nothing types kinds args (λ p ty e. none (suc p) ty e) (and_parts (arg_stands types k (arg.Lent o)) (args_stand types kinds args) stand).1
+moves_nothing types (k ∷ kinds) (arg.Cap x ∷ args) none stand = moves_nothing types kinds args (λ p ty e. none (suc p) ty e) (and_parts (arg_stands types k (arg.Cap x)) (args_stand types kinds args) stand).1
 moves_nothing types (kind.Own ty ∷ kinds) (arg.Moved o ∷ args) none stand = absurd (none 0 ty refl)
 moves_nothing types (kind.Num w ∷ kinds) (arg.Moved o ∷ args) none stand = absurd cc
 moves_nothing types (kind.Lent ty ∷ kinds) (arg.Moved o ∷ args) none stand = absurd cc
@@ -154,13 +158,13 @@ module _ (L : Load) (s : State) (plans : Plans L) (tables : HasTables L.tables) 
       let th = thread_there s t wait.0 in
       let call = top_call t r.dead r.of.on_top in
       let target : is_target L x ≡ true = subst (λ n. is_target L n ≡ true) (sym r.through) call.target in
-      let parts = and_true (is_shadow L r.dead.target) (is_idempotent (method_of L r.dead.target r.dead.method)) r.reissuable in
+      let parts = and_parts (is_shadow L r.dead.target) (is_idempotent (method_of L r.dead.target r.dead.method)) r.reissuable in
       let idem : call.method.idempotent ≡ true = subst (λ m. is_idempotent m ≡ true) call.row parts.1 in
       let none = moves_nothing (types_of L s) call.method.params r.dead.args ((plans.methods.target r.dead.target r.dead.method call.method call.row).still idem) call.args in
       let entry' = begun_entry L z c x i r.dead.method r.dead.args r.frame (λ o moved lent. absurd (let e : count o (moved_of r.dead.args) ≡ 0 = ap (count o) none in omega (arith, e, moved))) r.begins in
       let same : frame_entry r.frame ≡ record (frame_entry r.dead) { party = owner.Instance i; own = [] } = entry' ∙ again_entry c x i r.dead r.of.call r.through call.lent none in
       let lives : is_live s (current L s x) ≡ true = subst (λ n. is_live s n ≡ true) r.into r.lives in
-      let split = or_false (would_enter L s t (wish L s t)) (would_reenter L s t (top (stack s t))) wait.1 in
+      let split = or_parts (would_enter L s t (wish L s t)) (would_reenter L s t (top (stack s t))) wait.1 in
       let e : would_reenter L s t (Some r.dead) ≡ false = subst (λ found. would_reenter L s t found ≡ false) r.of.on_top split.1 in
       let current' : current L s x ≡ current L s r.dead.target = ap (current L s) r.through in
       let both : ((is_dead s r.dead && is_reissuable L r.dead) && is_live s (current L s r.dead.target)) ≡ true = ap₂ (λ a b. a && b) (ap₂ (λ a b. a && b) r.of.dead r.reissuable) (subst (λ n. is_live s n ≡ true) current' lives) in
@@ -175,18 +179,9 @@ module _ (L : Load) (s : State) (plans : Plans L) (tables : HasTables L.tables) 
   reloads clients t x i left z ready r =
       let th = thread_there s t ready in
       let target : is_target L x ≡ true = needed r.needed in
-      let l = load_there (load_of_target L x) (plans.targets.there x target) (plans.targets.within x) in
+      let l = load_there L (load_of_target L x) (plans.targets.there x target) (plans.targets.within x) in
       reload_row L s z t x i left laid th.0 th.1 ready r target l.0 l.1
     where
       needed : WouldCall L s t x ⊎ WouldReenter L s t x → is_target L x ≡ true
       needed (inl c) = subst (λ n. is_target L n ≡ true) c.target (called L s t plans tables laid owned fits clients ready c.wished c.wants).target
       needed (inr d) = subst (λ n. is_target L n ≡ true) d.target (top_call t d.frame d.on_top).target
-
-      there : {A : Type 0} (xs : List A) (k : ℕ) → k < length xs → (x : A) × (slice_get xs k ≡ Some x)
-      there [] k lt = absurd (omega arith)
-      there (y ∷ xs) zero lt = (y, refl)
-      there (y ∷ xs) (suc k) lt = there xs k (omega arith)
-
-      load_there : (k : ℕ) → 0 < k → k ≤ length L.loads → (l : LoadRow) × (load_row L k ≡ Some l)
-      load_there zero pos le = absurd (omega arith)
-      load_there (suc k) pos le = there L.loads k (omega arith)

@@ -1,6 +1,6 @@
 -- Returns, refusals, unwound calls and calls issued again are their rows of the ledger.
 use Rattle.std.proofs.Common.{◌≡◌, ℕ, suc, ◌-◌, ◌==◌, Bool, true, false, not, ◌||◌, List, [], ◌∷◌, ◌++◌, Option, Some, refl, ap, ap₂, sym, subst, ◌∙◌, arith, inl, inr, add-one}
-use Rattle.std.proofs.lemmas.Bool.{eqb-true}
+use Rattle.std.proofs.lemmas.Bool.{eqb-true, and_parts, not-true}
 use Rattle.rl_defs.specs.declared.values.Arg.{Arg}
 use Rattle.rl_defs.specs.declared.values.Value.{Value}
 use Rattle.rl_defs.specs.declared.values.Owner.{Owner}
@@ -27,11 +27,10 @@ use Rattle.machine_laws.specs.LedgerOf.{frame_entry, ledger_of}
 use Rattle.machine_laws.specs.LedgerRows.{Runs, IsDead, Exchanged, MayPass, MayReissue, IsFree, with_own, give, remove, Row}
 use Rattle.machine_laws.specs.Shape.{Laid}
 use Rattle.machine_laws.proofs.Rows.{at_same}
-use Rattle.machine_laws.proofs.Tops.{bottom, entries, under, client_within, stacks_at, stacks_with, done_same, runs_frame, dead_frame}
+use Rattle.machine_laws.proofs.Tops.{bottom, entries, under, client_within, stacks_at, done_same, runs_frame, dead_frame}
 use Rattle.machine_laws.proofs.Acting.{acts_as}
 use Rattle.machine_laws.proofs.Seats.{seats, IsIn, seats_given, seats_without}
 use Rattle.machine_laws.proofs.Pushing.{at_twice, popped_ledger}
-use Rattle.machine_laws.proofs.CallerRanks.{and_true}
 use Rattle.machine_laws.proofs.CallingRows.{Caller, refused_for, refused_in, current_same}
 use Rattle.machine_laws.proofs.Replying.{Replied}
 
@@ -112,7 +111,7 @@ module _ (L : Load) (s z : State) (t : ℕ) (laid : Laid L s) (ready : is_undone
       let w = client_within L s t thread laid of in
       let popped' = popped_ledger L s t laid w.0 w.1 in
       let stack_here : under s t ≡ replied.g ∷ replied.fs = sym (at_same t (under s t) ((ledger_of L s).stack)) ∙ sym (ap (λ (k : Ledger). k.stack t) popped') ∙ replied.here in
-      let dead = dead_frame L s t thread f laid of ready call.on_top (not_true (is_live s f.instance) call.dead) in (
+      let dead = dead_frame L s t thread f laid of ready call.on_top (not-true (is_live s f.instance) call.dead) in (
         frame_entry f,
         replied.g,
         replied.fs,
@@ -126,10 +125,6 @@ module _ (L : Load) (s z : State) (t : ℕ) (laid : Laid L s) (ready : is_undone
             ∙ ap (λ (st : ℕ → List LedgerFrame). record (ledger_of L s) { stack = st }) (at_twice t (record replied.g { own = replied.own } ∷ replied.fs) (under s t) ((ledger_of L s).stack)),
       )
     where
-      not_true : (b : Bool) → not b ≡ true → b ≡ false
-      not_true true e = absurd cc
-      not_true false e = refl
-
       gone : (x : ℕ) → MayReissue L (frame_entry f) x → (is_live s ((ledger_of L s).current x) ≡ false) × (restarts_left L s x ≡ 0)
       gone x may =
           let same : f.target ≡ x = may.through in
@@ -137,17 +132,17 @@ module _ (L : Load) (s z : State) (t : ℕ) (laid : Laid L s) (ready : is_undone
           let idem : is_idempotent (method_of L f.target f.method) ≡ true = subst (λ n. is_idempotent (method_of L n f.method) ≡ true) (sym same) may.idempotent in
           let re : is_reissuable L f ≡ true = rw (shadow, idem) refl in
           let gone' : is_gone L s f.target ≡ true = (let e : (not true || is_gone L s f.target) ≡ true = rw re at over in e) in
-          let parts = and_true (not (is_live s (current L s f.target))) (restarts_left L s f.target == 0) gone' in
+          let parts = and_parts (not (is_live s (current L s f.target))) (restarts_left L s f.target == 0) gone' in
           subst (λ n. (is_live s ((ledger_of L s).current n) ≡ false) × (restarts_left L s n ≡ 0)) same
-          (rw (current_same L s f.target target) (not_true (is_live s (current L s f.target)) parts.0), eqb-true (restarts_left L s f.target) 0 parts.1)
+          (rw (current_same L s f.target target) (not-true (is_live s (current L s f.target)) parts.0), eqb-true (restarts_left L s f.target) 0 parts.1)
 
   pub again_row : (c x i : ℕ) (f g : StackFrame) (thread : Thread) → row s.threads t ≡ Some thread → IsDeadCall s t c f → x ≡ f.target → is_target L x ≡ true → is_reissuable L f ≡ true
       → i ≡ current L s x → is_live s i ≡ true → IsFree L (ledger_of L s) t i → frame_entry g ≡ record (frame_entry f) { party = owner.Instance i; own = [] } → z ≡ with_top t g s
       → Row L (ledger_of L s) (entry.Again t c x i) (ledger_of L z)
   again_row c x i f g thread of call through target re into lives free begins becomes =
       let w = client_within L s t thread laid of in
-      let dead = dead_frame L s t thread f laid of ready call.on_top (not_true (is_live s f.instance) call.dead) in
-      let parts = and_true (is_shadow L f.target) (is_idempotent (method_of L f.target f.method)) re in
+      let dead = dead_frame L s t thread f laid of ready call.on_top (not-true (is_live s f.instance) call.dead) in
+      let parts = and_parts (is_shadow L f.target) (is_idempotent (method_of L f.target f.method)) re in
       let all' = Rattle.machine_laws.proofs.Tops.frames_at L s t (below_top (stack s t) ++ g ∷ []) laid w.0 w.1 in
       let push = Rattle.machine_laws.proofs.Stacks.entries_push (below_top (stack s t)) g (bottom t (row s.threads t) ∷ []) in (
         frame_entry f,
@@ -165,7 +160,3 @@ module _ (L : Load) (s z : State) (t : ℕ) (laid : Laid L s) (ready : is_undone
         ap (ledger_of L) becomes
             ∙ ap (λ (st : ℕ → List LedgerFrame). record (ledger_of L s) { stack = st }) (all' ∙ ap (λ fs. at t fs ((ledger_of L s).stack)) (push ∙ ap (λ (h : LedgerFrame). h ∷ under s t) begins)),
       )
-    where
-      not_true : (b : Bool) → not b ≡ true → b ≡ false
-      not_true true e = absurd cc
-      not_true false e = refl

@@ -1,7 +1,8 @@
 -- At most 65,536 objects are live: at the start, behind each row, and behind each sweep.
-use Rattle.std.proofs.Common.{◌≡◌, ℕ, zero, suc, ◌+◌, ◌<◌, ◌≤◌, Bool, true, false, not, ◌&&◌, inl, inr, nat_le, nat_lt, if◌then◌else◌, List, [], ◌∷◌, ◌++◌, length, map, filter, Option, Some, None, slice_get, refl, ap, sym, subst, ◌∙◌, arith, ltb-true, leb-false}
+use Rattle.std.proofs.Common.{◌≡◌, ℕ, zero, suc, ◌+◌, ◌<◌, ◌≤◌, Bool, true, false, not, ◌&&◌, inl, inr, nat_le, nat_lt, if◌then◌else◌, List, [], ◌∷◌, length, map, filter, Option, Some, None, slice_get, refl, ap, subst, ◌∙◌, arith, ltb-true, leb-false}
 use Rattle.std.proofs.lemmas.Bool.{cases_Bool}
 use Rattle.std.specs.List.{list_all}
+use Rattle.std.proofs.lemmas.List.{length-map, length-append}
 use Rattle.rl_defs.specs.declared.values.Owner.{Owner}
 use Rattle.rl_defs.specs.declared.entry.Entry.{Entry}
 use Rattle.rl_defs.specs.declared.entry.Entry.TheVariants as entry
@@ -20,14 +21,13 @@ use Rattle.rl_defs.specs.Wanted.{Commands, Skips, Acts, used, is_bound, makes, c
 use Rattle.rl_defs.specs.Machine.Objects.{fresh_object}
 use Rattle.rl_defs.specs.Machine.Wants.{by_body}
 use Rattle.rl_defs.specs.Machine.ObjectRows.{Gives, Makes}
-use Rattle.rl_defs.specs.Machine.Steps.{Row, Turn, Step}
+use Rattle.rl_defs.specs.Machine.Steps.{Row}
 use Rattle.machine_laws.specs.Plans.{Plans}
 use Rattle.machine_laws.specs.Registers.{HasTables}
 use Rattle.machine_laws.specs.Shape.{Laid}
 use Rattle.machine_laws.specs.Fitting.{Fitting}
 use Rattle.machine_laws.proofs.Acting.{ActsAs, acts_as, commands_as}
 use Rattle.machine_laws.proofs.CodeDoing.{code_does}
-use Rattle.machine_laws.proofs.InstancesKept.{length_map}
 use Rattle.machine_laws.proofs.Moves.{IsNew, Moves, row_moves}
 use Rattle.machine_laws.proofs.SoundKinds.{Few}
 
@@ -42,7 +42,7 @@ filter_shorter test (x ∷ xs) = let r = filter_shorter test xs in elim (cases_B
 ]
 
 as_many : (g : Object → Object) (xs : List Object) → length (map g xs) ≤ length xs
-as_many g xs = let e = length_map g xs in omega (arith, e)
+as_many g xs = let e = length-map xs g in omega (arith, e)
 
 -- all but a `new` make no more objects
 no_more_moves : (L : Load) (e : Entry) → (IsNew e → ⊥) → Moves L e NoMore
@@ -85,10 +85,7 @@ has_room s thread (Some c) next e new = elim (cases_Bool (can_do s thread.names 
 gives_makes : (next : Command) (ty : ℕ) (values : List ℕ) → Gives next ty values → makes next ≡ true
 gives_makes (command.Let name of given) ty values gives = refl
 gives_makes (command.Text name of given) ty values gives = refl
-gives_makes (command.Call x m args names) ty values gives = absurd gives
-gives_makes (command.Show k) ty values gives = absurd gives
-gives_makes (command.Drop k) ty values gives = absurd gives
-gives_makes (command.Kill x) ty values gives = absurd gives
+gives_makes other ty values gives = absurd gives
 
 -- a native body that makes an object has room for it
 native_room : (L : Load) (s : State) (f : StackFrame) (fuel : ℕ) (held : List ℕ) (kept : Action) (ty rest : ℕ) (frame : StackFrame) → by_body L s fuel f (body.Native held kept) ≡ Acts (action.New ty) rest frame → length s.objects < 65536
@@ -97,22 +94,7 @@ native_room L s f (suc fuel) held (action.New of) ty rest frame e = elim (cases_
   | inl room ↦ ltb-true (length s.objects) 65536 room
   | inr full ↦ absurd (let e' : Acts (action.Trap cause.HeapFull) (suc fuel) f ≡ Acts (action.New ty) rest frame = rw full at e in cc)
 ]
-native_room L s f (suc fuel) held (action.Drop o) ty rest frame e = absurd cc
-native_room L s f (suc fuel) held (action.Set o k values) ty rest frame e = absurd cc
-native_room L s f (suc fuel) held (action.Wput k v) ty rest frame e = absurd cc
-native_room L s f (suc fuel) held (action.Take k) ty rest frame e = absurd cc
-native_room L s f (suc fuel) held (action.Put k o) ty rest frame e = absurd cc
-native_room L s f (suc fuel) held (action.DevGet o b) ty rest frame e = absurd cc
-native_room L s f (suc fuel) held (action.DevPut b o) ty rest frame e = absurd cc
-native_room L s f (suc fuel) held (action.Hang q k o) ty rest frame e = absurd cc
-native_room L s f (suc fuel) held (action.Unhang q k) ty rest frame e = absurd cc
-native_room L s f (suc fuel) held (action.Call x m args) ty rest frame e = absurd cc
-native_room L s f (suc fuel) held (action.Ret results) ty rest frame e = absurd cc
-native_room L s f (suc fuel) held (action.Trap c) ty rest frame e = absurd cc
-
-one_more : (xs : List Object) (x : Object) → length (xs ++ x ∷ []) ≡ length xs + 1
-one_more [] x = omega arith
-one_more (y ∷ xs) x = let e = one_more xs x in omega (arith, e)
+native_room L s f (suc fuel) held other ty rest frame e = absurd cc
 
 module _ (L : Load) (s : State) (plans : Plans L) (tables : HasTables L.tables) (laid : Laid L s) (fits : Fitting L s) where
   frame_room : (t ty rest : ℕ) (frame : StackFrame) → ActsAs L s t (action.New ty) rest frame → length s.objects < 65536
@@ -129,11 +111,11 @@ module _ (L : Load) (s : State) (plans : Plans L) (tables : HasTables L.tables) 
     | inl c ↦
         let by = commands_as L s t (Commands c.next) tt c.does.wants in
         let room = has_room s by.thread (slice_get (commands_of (row L.clients t)) by.thread.place) c.next by.by (gives_makes c.next ty values c.gives) in
-        let e : length made.objects ≡ length s.objects + 1 = ap (λ (z : State). length z.objects) c.does.becomes ∙ one_more s.objects (fresh_object L s.next_object ty w values) in
+        let e : length made.objects ≡ length s.objects + 1 = ap (λ (z : State). length z.objects) c.does.becomes ∙ length-append s.objects ((fresh_object L s.next_object ty w values) ∷ []) in
         omega (arith, room, e)
     | inr f ↦
         let room = frame_room t ty f.does.fuel f.does.frame (acts_as L s t (action.New ty) f.does.fuel f.does.frame f.does.wants) in
-        let e : length made.objects ≡ length s.objects + 1 = ap (λ (z : State). length z.objects) f.does.becomes ∙ one_more s.objects (fresh_object L s.next_object ty w []) in
+        let e : length made.objects ≡ length s.objects + 1 = ap (λ (z : State). length z.objects) f.does.becomes ∙ length-append s.objects ((fresh_object L s.next_object ty w []) ∷ []) in
         omega (arith, room, e)
   ]
 
@@ -143,27 +125,7 @@ module _ (L : Load) (s : State) (plans : Plans L) (tables : HasTables L.tables) 
   -- a row that makes an object has room for it, and the others make none
   pub few_row : (e : Entry) (made : State) → Row L s e made → Few s → Few made
   few_row (entry.New t w o ty values) made makes few = made_few t w o ty values made makes
-  few_row (entry.Call t c x i m args) made makes few = others (entry.Call t c x i m args) made (λ new. new) makes few
-  few_row (entry.Refuse t c why x m args) made makes few = others (entry.Refuse t c why x m args) made (λ new. new) makes few
-  few_row (entry.Ret t c results) made makes few = others (entry.Ret t c results) made (λ new. new) makes few
-  few_row (entry.Unwound t c) made makes few = others (entry.Unwound t c) made (λ new. new) makes few
-  few_row (entry.Reload t x i left) made makes few = others (entry.Reload t x i left) made (λ new. new) makes few
-  few_row (entry.Again t c x i) made makes few = others (entry.Again t c x i) made (λ new. new) makes few
-  few_row (entry.Trap t i c) made makes few = others (entry.Trap t i c) made (λ new. new) makes few
-  few_row (entry.Kill t i) made makes few = others (entry.Kill t i) made (λ new. new) makes few
-  few_row (entry.Drop t o) made makes few = others (entry.Drop t o) made (λ new. new) makes few
-  few_row (entry.Set t o place values) made makes few = others (entry.Set t o place values) made (λ new. new) makes few
-  few_row (entry.Wput t i place v) made makes few = others (entry.Wput t i place v) made (λ new. new) makes few
-  few_row (entry.Take t i slot o) made makes few = others (entry.Take t i slot o) made (λ new. new) makes few
-  few_row (entry.Put t i slot o) made makes few = others (entry.Put t i slot o) made (λ new. new) makes few
-  few_row (entry.DevGet t o b) made makes few = others (entry.DevGet t o b) made (λ new. new) makes few
-  few_row (entry.DevPut t b o) made makes few = others (entry.DevPut t b o) made (λ new. new) makes few
-  few_row (entry.Hang t o place v) made makes few = others (entry.Hang t o place v) made (λ new. new) makes few
-  few_row (entry.Unhang t o place v) made makes few = others (entry.Unhang t o place v) made (λ new. new) makes few
-  few_row (entry.Show t o values) made makes few = others (entry.Show t o values) made (λ new. new) makes few
-  few_row (entry.Skip t number) made makes few = others (entry.Skip t number) made (λ new. new) makes few
-  few_row (entry.Done t) made makes few = others (entry.Done t) made (λ new. new) makes few
-  few_row (entry.Free o) made makes few = others (entry.Free o) made (λ new. new) makes few
+  few_row other made makes few = others other made (λ new. new) makes few
 
 -- a sweep takes objects away
 pub few_sweep : (s : State) → Few s → Few (sweep s)
@@ -171,6 +133,3 @@ few_sweep s few = let r = filter_shorter (λ x. not (is_doomed s x)) s.objects i
 
 pub few_start : (L : Load) → Few (start L)
 few_start L = omega arith
-
-pub few_step : (L : Load) (s : State) (u : Turn) (z : State) → Plans L → HasTables L.tables → Laid L s → Fitting L s → Step L s u z → Few s → Few z
-few_step L s u z plans tables laid fits step few = subst Few (sym step.swept) (few_sweep step.made (few_row L s plans tables laid fits u.entry step.made step.makes few))

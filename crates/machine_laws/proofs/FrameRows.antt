@@ -1,5 +1,6 @@
 -- The actions of frames are rows of the ledger. What the premises say of the frame's own objects comes from what its code or body is.
 use Rattle.std.proofs.Common.{◌≡◌, ℕ, ◌-◌, Bool, true, List, [], ◌∷◌, ◌++◌, Some, refl, ap, sym, subst, ap₂, ◌∙◌}
+use Rattle.std.proofs.lemmas.List.{length-set}
 use Rattle.rl_defs.specs.declared.values.Owner.TheVariants as owner
 use Rattle.rl_defs.specs.declared.frame.Action.{Action}
 use Rattle.rl_defs.specs.declared.frame.Answer.{Answer}
@@ -16,7 +17,6 @@ use Rattle.machine_laws.specs.Ledger.{LedgerFrame, at}
 use Rattle.machine_laws.specs.LedgerOf.{frame_entry, ledger_of}
 use Rattle.machine_laws.specs.LedgerRows.{Runs, with_own}
 use Rattle.machine_laws.specs.Shape.{Laid}
-use Rattle.machine_laws.proofs.Rows.{length_set}
 use Rattle.machine_laws.proofs.Stacks.{entries_push}
 use Rattle.machine_laws.proofs.Tops.{bottom, under, entries, client_within, stacks_at, stacks_with, done_same, runs_frame}
 use Rattle.machine_laws.proofs.Acting.{ActsAs, acts_as}
@@ -42,8 +42,8 @@ gone_on s t g thread = with_top t g (with_thread s t thread)
 
 pub laid_on : (L : Load) (s : State) (t : ℕ) (g : StackFrame) (thread : Thread) → Laid L s → Laid L (gone_on s t g thread)
 laid_on L s t g thread laid = record {
-  stacks = length_set s.stacks (t - 1) (below_top (stack s t) ++ g ∷ []) ∙ laid.stacks;
-  threads = length_set s.threads (t - 1) thread ∙ laid.threads;
+  stacks = length-set s.stacks (t - 1) (below_top (stack s t) ++ g ∷ []) ∙ laid.stacks;
+  threads = length-set s.threads (t - 1) thread ∙ laid.threads;
   shadows = laid.shadows;
   objects = laid.objects;
   started = laid.started;

@@ -40,28 +40,20 @@ use Rattle.machine_laws.proofs.ActionRows.{new_row, drop_row, set_row, wput_row,
 use Rattle.machine_laws.proofs.Present.{own_root, seated}
 use Rattle.machine_laws.proofs.Sights.{hung_there}
 use Rattle.machine_laws.proofs.OwnFits.{FitsAct}
-use Rattle.machine_laws.proofs.OwnAnswers.{Unlent}
+use Rattle.machine_laws.proofs.OwnAnswers.{Unlent, one_more}
 use Rattle.machine_laws.proofs.OwnDoing.{IsDone, CodeAnswer, DoesOwn, does_own, acting_code}
 use Rattle.machine_laws.proofs.Unlent.{next_unlent, hung_unlent, slot_unlent, registers_there}
 
 -- an answer that brings nothing fits whatever the instruction does
 pub went_fits : (types : Typing) (d : Domain) (n : ℕ) (sight : Sight) (live : ℕ) (kinds : Kinds) (i : Instr) (act : Action) → IsDone act answer.Went → FitsAct types d n sight live kinds i act → FitsAnswer types d kinds i answer.Went
-went_fits types d n sight live kinds i (action.New ty) done can = absurd done
 went_fits types d n sight live kinds i (action.Drop o) done can = can
 went_fits types d n sight live kinds i (action.Set o k values) done can = can.1
 went_fits types d n sight live kinds i (action.Wput k v) done can = can.1
-went_fits types d n sight live kinds i (action.Take k) done can = absurd done
 went_fits types d n sight live kinds i (action.Put k o) done can = can.2
 went_fits types d n sight live kinds i (action.DevGet o b) done can = can.1
 went_fits types d n sight live kinds i (action.DevPut b o) done can = can.1
 went_fits types d n sight live kinds i (action.Hang q k o) done can = can.2
-went_fits types d n sight live kinds i (action.Unhang q k) done can = absurd done
-went_fits types d n sight live kinds i (action.Call x m args) done can = absurd done
-went_fits types d n sight live kinds i (action.Ret results) done can = absurd done
-went_fits types d n sight live kinds i (action.Trap c) done can = absurd done
-
-one_of : (o : ℕ) → 0 < count o (o ∷ [])
-one_of o = rw (eq-eqb o o refl) (omega arith)
+went_fits types d n sight live kinds i other done can = absurd done
 
 none_received : (lent : List ℕ) → Unlent lent []
 none_received lent o some = absurd (omega (arith, some))
@@ -105,7 +97,7 @@ module _ (L : Load) (s z : State) (t : ℕ) (plans : Plans L) (tables : HasTable
   pub sets : (i o k : ℕ) (values : List ℕ) (d : Does L s t i (action.Set o k values) answer.Went (with_cells_of o (overwritten k values)) z) → Row L (ledger_of L s) (entry.Set t o k values) (ledger_of L z)
   sets i o k values d =
       let own' = went_own d tt (loads_same (with_cells_of o (overwritten k values)) d (λ m. refl)) in
-      set_row L s z t laid ready i o k values d (own'.uses o (one_of o)) own'.trades
+      set_row L s z t laid ready i o k values d (own'.uses o (one_more o)) own'.trades
 
   pub puts_word : (i k v : ℕ) (d : Does L s t i (action.Wput k v) answer.Went (with_word i k v) z) → k < length (words s i) → Row L (ledger_of L s) (entry.Wput t i k v) (ledger_of L z)
   puts_word i k v d inside =
@@ -120,13 +112,13 @@ module _ (L : Load) (s z : State) (t : ℕ) (plans : Plans L) (tables : HasTable
   pub gets_block : (i o b : ℕ) (d : Does L s t i (action.DevGet o b) answer.Went (with_cells_of o (instead (block s b))) z) → Row L (ledger_of L s) (entry.DevGet t o b) (ledger_of L z)
   gets_block i o b d =
       let own' = went_own d tt (loads_same (with_cells_of o (instead (block s b))) d (λ m. refl)) in
-      devget_row L s z t laid ready i o b d (own'.uses o (one_of o)) own'.trades
+      devget_row L s z t laid ready i o b d (own'.uses o (one_more o)) own'.trades
 
   pub puts_block : (i o b : ℕ) (cells : List ℕ) (d : Does L s t i (action.DevPut b o) answer.Went (with_block b cells) z) → Row L (ledger_of L s) (entry.DevPut t b o) (ledger_of L z)
   puts_block i o b cells d =
       let own' = went_own d tt (loads_same (with_block b cells) d (λ m. refl)) in
-      let reads = own'.shows o (one_of o) in
-      devput_row L s z t laid ready i o b cells d (elim reads [ inl mine ↦ inl mine | inr lent ↦ inr (Rattle.machine_laws.proofs.OwnEntries.has_counted (actor laid ready d).lent o lent) ]) own'.trades
+      let reads = own'.shows o (one_more o) in
+      devput_row L s z t laid ready i o b cells d (elim reads [ inl mine ↦ inl mine | inr lent ↦ inr (Rattle.machine_laws.proofs.Counts.has_counted (actor laid ready d).lent o lent) ]) own'.trades
 
   -- what a frame that acts has of its own is a root of its instance
   pub actor_root : {i : ℕ} {act : Action} {a : Answer} {change : State → State} (d : Does L s t i act a change z) (o : ℕ) → 0 < count o (own_of (actor laid ready d)) → seats s o ≡ Some (Root (owner.Instance (actor laid ready d).instance))
@@ -203,10 +195,10 @@ module _ (L : Load) (s z : State) (t : ℕ) (plans : Plans L) (tables : HasTable
     pub hangs : ((q : ℕ) → seats s q ≡ Some (Hung o k) → ⊥) → ((q j : ℕ) → seats s q ≡ Some (Hung v j) → ⊥) → Row L (ledger_of L s) (entry.Hang t o k v) (ledger_of L z)
     hangs empty leaf =
         let gone = hang_own.trades v in
-        let one = one_of v in
+        let one = one_more v in
         let v_own : 0 < count v (own_of (actor laid ready h.does)) = omega (arith, gone, one) in
         let root = actor_root h.does v v_own in
-        hang_row L s z t laid ready h.inside o k v h.does (hang_own.keeps o (one_of o)) hang_own.trades (seated s v (Root (owner.Instance (actor laid ready h.does).instance)) root) empty leaf
+        hang_row L s z t laid ready h.inside o k v h.does (hang_own.keeps o (one_more o)) hang_own.trades (seated s v (Root (owner.Instance (actor laid ready h.does).instance)) root) empty leaf
 
   -- and out of it
   module _ (o k v : ℕ) (h : Unhangs L s t o k v z) where
@@ -234,4 +226,4 @@ module _ (L : Load) (s z : State) (t : ℕ) (plans : Plans L) (tables : HasTable
     pub unhangs : Row L (ledger_of L s) (entry.Unhang t o k v) (ledger_of L z)
     unhangs =
         let r = hung_there L s o k v laid h.full in
-        unhang_row L s z t laid ready h.inside o k v h.does (unhang_own.uses o (one_of o)) unhang_seat unhang_own.trades (r.0, r.1)
+        unhang_row L s z t laid ready h.inside o k v h.does (unhang_own.uses o (one_more o)) unhang_seat unhang_own.trades (r.0, r.1)

@@ -75,14 +75,7 @@ module _ (L : Load) (s : State) (plans : Plans L) (tables : HasTables L.tables) 
   from_code n live kinds i (action.DevGet o b) w can = (subst (λ ks. has_cells 64 width.W64 ks ≡ true) (cells_same o) w, block_within L (instance_load s doing.f.instance) b can.0)
   from_code n live kinds i (action.DevPut b o) w can = subst (λ ks. has_cells 64 width.W64 ks ≡ true) (cells_same o) w
   from_code n live kinds i (action.Hang q place o) w can = subst (λ ks. slice_get ks place ≡ Some (kind.Own ((types_of L s).struct_of o))) (cells_same q) (hung_kind (slice_get (cells_of d.tables ((types_of L s).struct_of q)) place) ((types_of L s).struct_of o) can.1)
-  from_code n live kinds i (action.New ty) w can = tt
-  from_code n live kinds i (action.Drop o) w can = tt
-  from_code n live kinds i (action.Wput k v) w can = tt
-  from_code n live kinds i (action.Take k) w can = tt
-  from_code n live kinds i (action.Unhang q k) w can = tt
-  from_code n live kinds i (action.Call x m args) w can = tt
-  from_code n live kinds i (action.Ret results) w can = tt
-  from_code n live kinds i (action.Trap c) w can = tt
+  from_code n live kinds i other w can = tt
 
   from_native : (holds : List ℕ) (a : Action) → CanChoose L s doing.f holds a → PutsFit L s doing.f.instance a
   from_native holds (action.Set o place values) can = can.suits
@@ -90,14 +83,7 @@ module _ (L : Load) (s : State) (plans : Plans L) (tables : HasTables L.tables) 
   from_native holds (action.DevGet o b) can = absurd can
   from_native holds (action.DevPut b o) can = absurd can
   from_native holds (action.Hang q place o) can = absurd can
-  from_native holds (action.New ty) can = tt
-  from_native holds (action.Drop o) can = tt
-  from_native holds (action.Wput k v) can = tt
-  from_native holds (action.Take k) can = tt
-  from_native holds (action.Unhang q k) can = tt
-  from_native holds (action.Call x m args) can = tt
-  from_native holds (action.Ret results) can = tt
-  from_native holds (action.Trap c) can = tt
+  from_native holds other can = tt
 
   pub puts_fit : PutsFit L s doing.f.instance act
   puts_fit = go doing.f.body refl

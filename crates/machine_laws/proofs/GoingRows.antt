@@ -203,10 +203,7 @@ module _ (L : Load) (s : State) (plans : Plans L) (tables : HasTables L.tables) 
       by : (next : Command) → Gives next ty values → slice_get (commands_of (row L.clients t)) place ≡ Some next → slice_get (bound_by next) zero ≡ Some k → (of : Kind) × BindsName L t k of × (value_suits (types_with L s o ty) of v ≡ true)
       by (command.Let n own given) g h b = (kind.Own own, record { place = place; next = command.Let n own given; here = h; at = zero; name = b; kind = refl }, suits own g.0)
       by (command.Text n own given) g h b = (kind.Own own, record { place = place; next = command.Text n own given; here = h; at = zero; name = b; kind = refl }, suits own g.0)
-      by (command.Call x m args names) g h b = absurd g
-      by (command.Show n) g h b = absurd g
-      by (command.Drop n) g h b = absurd g
-      by (command.Kill x) g h b = absurd g
+      by other g h b = absurd g
   made_suits t place o ty values next gives here (suc i) k v name is = absurd cc
 
   new_goes : (t : ℕ) (w : Owner) (o ty : ℕ) (values : List ℕ) (z : State) → is_undone (row s.threads t) ≡ true → ClientMakes L s t w o ty values z ⊎ FrameMakes L s t w o ty values z → Goes L s z t (types_with L s o ty)

@@ -1,6 +1,6 @@
 -- The readings of a history that tell the objects.
 use Rattle.std.proofs.Common.{◌≡◌, ℕ, suc, ◌<◌, ◌≤◌, true, false, cond, ◌⊎◌, List, [], ◌∷◌, Option, Some, None, refl, ap, sym, ◌∙◌, subst, arith, inl, inr}
-use Rattle.std.proofs.lemmas.Bool.{cases_eq, cases_Bool, eq-eqb, ne_eqb}
+use Rattle.std.proofs.lemmas.Bool.{cases_eq, cases_Bool, eq-eqb, ne_eqb, cases_lt}
 use Rattle.rl_defs.specs.declared.values.Value.{Value}
 use Rattle.rl_defs.specs.declared.values.Owner.{Owner}
 use Rattle.rl_defs.specs.declared.values.Owner.TheVariants as owner
@@ -16,13 +16,13 @@ use Rattle.rl_defs.specs.Machine.History.{closed, open_calls, actor, is_new, obj
 use Rattle.machine_laws.specs.Ledger.{LedgerFrame, Ledger, at}
 use Rattle.machine_laws.specs.LedgerRows.{Runs, give, remove, Row}
 use Rattle.machine_laws.specs.LedgerSound.{Owned, Grounded, Placed}
-use Rattle.machine_laws.proofs.Sums.{at_same, at_other}
-use Rattle.machine_laws.proofs.Counts.{has_count, has_cond, loses_one}
+use Rattle.machine_laws.proofs.Counts.{has_counted, has_cond, loses_one}
 use Rattle.machine_laws.proofs.Owners.{below, top_root}
 use Rattle.machine_laws.proofs.OneStack.{at_each}
 use Rattle.machine_laws.proofs.Calls.{calls_of, CallsAgree, actor_top, closed_newest}
 use Rattle.machine_laws.proofs.CallRows.{turn}
 use Rattle.machine_laws.proofs.PlaceRows.{made_before, own_made}
+use Rattle.machine_laws.proofs.Rows.{at_same, at_other}
 
 -- the history tells the seats
 pub record HeapAgreesIn (us : List Turn) (seat : ℕ → Option Placement) (next_object : ℕ) : Type 0 where
@@ -60,7 +60,7 @@ heaped us us' seat seat' next next' h becomes counts le fresh born = record {
     | inr (inr (inr left)) ↦ absurd (cc (left.0, is))
   ];
   away = λ o pos lt is. elim (becomes o) [
-    | inl same ↦ elim (dec_below o next) [
+    | inl same ↦ elim (cases_lt o next) [
       | inl below ↦ same.3 ∙ h.away o pos below (sym same.0 ∙ is)
       | inr above ↦ absurd (born o above lt is)
     ]
@@ -75,9 +75,6 @@ heaped us us' seat seat' next next' h becomes counts le fresh born = record {
     | inr (inr (inr left)) ↦ absurd (let l = left.2 in omega arith)
   ];
 }
-  where
-    dec_below : (a b : ℕ) → (a < b) ⊎ (b ≤ a)
-    dec_below a b = grind arith
 
 -- an entry that tells nothing of objects
 pub record IsSilent (e : Entry) : Type 0 where
@@ -110,7 +107,7 @@ module _ (L : Load) (us : List Turn) (s : Ledger) (own : Owned L s) (c : CallsAg
       → ((o : ℕ) → 0 < count o os → (v : Owner) × (s.seat o ≡ Some (Root v))) → HeapAgreesIn (turn e [] ∷ us) (give os w s.seat) s.next_object
   given e os w receivers parents drops news roots = heaped us (turn e [] ∷ us) s.seat (give os w s.seat) s.next_object s.next_object h
       (λ o. elim (cases_Bool (has os o)) [
-        | inl is ↦ inr (inl (w, rw is refl, receivers o ∙ rw is refl, parents o (parent_at us o) ∙ (let r = roots o (has_count o os is) in (h.root o r.0 r.1).1), rw (drops o) (let r = roots o (has_count o os is) in (h.root o r.0 r.1).2)))
+        | inl is ↦ inr (inl (w, rw is refl, receivers o ∙ rw is refl, parents o (parent_at us o) ∙ (let r = roots o (has_counted os o is) in (h.root o r.0 r.1).1), rw (drops o) (let r = roots o (has_counted os o is) in (h.root o r.0 r.1).2)))
         | inr is ↦ inl (rw is refl, receivers o ∙ rw is refl, parents o (parent_at us o), rw (drops o) refl)
       ])
       (let a = h.made in omega arith) (omega arith)
@@ -129,7 +126,7 @@ module _ (L : Load) (us : List Turn) (s : Ledger) (own : Owned L s) (c : CallsAg
       subst (HeapAgrees (turn e [] ∷ us)) (sym r.7)
       (heaped us (turn e [] ∷ us) s.seat (remove (moved_of args) s.seat) s.next_object s.next_object h
       (λ o. elim (cases_Bool (has (moved_of args) o)) [
-        | inl is ↦ inr (inr (inr (rw is refl, rw is refl, (let some = has_count o (moved_of args) is in let a = r.6.moved o in (own_made L s own p t r.0 r.1 runs o (omega arith)).1))))
+        | inl is ↦ inr (inr (inr (rw is refl, rw is refl, (let some = has_counted (moved_of args) o is in let a = r.6.moved o in (own_made L s own p t r.0 r.1 runs o (omega arith)).1))))
         | inr is ↦ inl (rw is refl, refl, refl, rw is refl)
       ])
       (let a = h.made in omega arith) (omega arith)

@@ -1,5 +1,6 @@
 -- What a changed instance makes of the ledger.
-use Rattle.std.proofs.Common.{◌≡◌, ◌≢◌, ℕ, zero, suc, ◌+◌, ◌-◌, ◌<◌, true, false, List, [], ◌∷◌, length, Option, Some, None, slice_set, refl, ap, sym, subst, ◌∙◌, arith, inl, inr}
+use Rattle.std.proofs.Common.{◌≡◌, ℕ, ◌+◌, ◌-◌, ◌<◌, true, false, List, length, Option, Some, None, slice_set, refl, ap, sym, subst, ◌∙◌, inl, inr}
+use Rattle.std.proofs.lemmas.List.{get_or-set_same, get_or-set_other, length-set}
 use mathlib.Core.Path.{fun_ext}
 use Rattle.std.specs.List.{slice_index_or}
 use Rattle.std.proofs.lemmas.Bool.{cases_eq, eq-eqb}
@@ -7,7 +8,7 @@ use Rattle.rl_defs.specs.State.{State, Instance, row, lives, is_live}
 use Rattle.rl_defs.specs.Wanted.{load_of_instance, instance_load}
 use Rattle.rl_defs.specs.Machine.Seen.{change_row, with_instance, words_in, slots_in, words, slots, with_word, with_slot, ended}
 use Rattle.machine_laws.specs.Ledger.{at}
-use Rattle.machine_laws.proofs.Rows.{at_same, at_other, row_within, row_set_same, row_set_other, length_set}
+use Rattle.machine_laws.proofs.Rows.{at_same, at_other, row_within, row_set_same, row_set_other}
 
 -- the row of a changed list
 pub row_changed : {A B : Type 0} (g : Option A → B) (xs : List A) (i : ℕ) (change : A → A) (x : A) → row xs i ≡ Some x
@@ -61,7 +62,7 @@ count_kept s i change = ap (λ n. n + 1) (go (row s.instances i))
   where
     go : (here : Option Instance) → length (change_row s.instances i change here) ≡ length s.instances
     go None = refl
-    go (Some x) = length_set s.instances (i - 1) (change x)
+    go (Some x) = length-set s.instances (i - 1) (change x)
 
 -- an instance that ends
 pub lives_ended : (s : State) (i : ℕ) → is_live (ended i s) ≡ at i false (is_live s)
@@ -81,18 +82,6 @@ slots_set s i k content up =
     let e : slots s i ≡ x.0.slots = rw x.1 refl in
     rw e (fun_ext (λ j. row_changed slots_in s.instances i (λ y. record y { slots = slice_set y.slots k content }) x.0 x.1 j))
 
-index_set_same : (ws : List ℕ) (k v : ℕ) → k < length ws → slice_index_or (slice_set ws k v) k 0 ≡ v
-index_set_same [] k v lt = absurd (omega arith)
-index_set_same (w ∷ ws) zero v lt = refl
-index_set_same (w ∷ ws) (suc k) v lt = index_set_same ws k v (omega arith)
-
-index_set_other : (ws : List ℕ) (k j v : ℕ) → j ≢ k → slice_index_or (slice_set ws k v) j 0 ≡ slice_index_or ws j 0
-index_set_other [] k j v ne = refl
-index_set_other (w ∷ ws) zero zero v ne = absurd (ne refl)
-index_set_other (w ∷ ws) zero (suc j) v ne = refl
-index_set_other (w ∷ ws) (suc k) zero v ne = refl
-index_set_other (w ∷ ws) (suc k) (suc j) v ne = index_set_other ws k j v (λ e. ne (ap (λ n. suc n) e))
-
 -- a word that is set
 pub words_set : (s : State) (i k v : ℕ) → is_live s i ≡ true → k < length (words s i) → words_read (with_word i k v s) ≡ at i (at k v (words_read s i)) (words_read s)
 words_set s i k v up lt =
@@ -100,8 +89,8 @@ words_set s i k v up lt =
     let e : words s i ≡ x.0.words = rw x.1 refl in
     let lt' : k < length x.0.words = rw e at lt in
     let read : ◌≡◌ {A = ℕ → ℕ} (λ j. slice_index_or (slice_set x.0.words k v) j 0) (at k v (λ j. slice_index_or x.0.words j 0)) = fun_ext (λ j. elim (cases_eq j k) [
-      | inl is ↦ rw (is, index_set_same x.0.words k v lt', at_same k v (λ n. slice_index_or x.0.words n 0)) refl
-      | inr ne ↦ rw (index_set_other x.0.words k j v ne, at_other k v (λ n. slice_index_or x.0.words n 0) j ne) refl
+      | inl is ↦ rw (is, get_or-set_same x.0.words k v 0 lt', at_same k v (λ n. slice_index_or x.0.words n 0)) refl
+      | inr ne ↦ rw (get_or-set_other x.0.words k j v 0 ne, at_other k v (λ n. slice_index_or x.0.words n 0) j ne) refl
     ]) in
     let all' : words_read (with_word i k v s) ≡ at i (at k v (λ j. slice_index_or x.0.words j 0)) (words_read s) = fun_ext (λ j. fun_ext (λ n. go x.0 x.1 read j n)) in
     subst (λ ws. words_read (with_word i k v s) ≡ at i (at k v (λ j. slice_index_or ws j 0)) (words_read s)) (sym e) all'

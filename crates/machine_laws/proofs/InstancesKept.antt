@@ -1,6 +1,7 @@
 -- Each row leaves instances of their loads, with as many words and slots as their domains.
-use Rattle.std.proofs.Common.{◌≡◌, ℕ, zero, suc, ◌-◌, ◌<◌, ◌≤◌, List, [], ◌∷◌, ◌++◌, length, map, replicate, Option, Some, None, slice_get, slice_set, refl, ap, sym, subst, ◌∙◌, inl, inr}
+use Rattle.std.proofs.Common.{◌≡◌, ℕ, zero, suc, ◌-◌, ◌<◌, ◌≤◌, List, [], ◌∷◌, ◌++◌, length, Option, Some, None, slice_get, slice_set, refl, ap, sym, subst, ◌∙◌, inl, inr}
 use Rattle.std.proofs.lemmas.Bool.{cases_eq}
+use Rattle.std.proofs.lemmas.List.{length-replicate, length-map, length-set}
 use Rattle.rl_defs.specs.declared.entry.Entry.{Entry}
 use Rattle.rl_defs.specs.declared.load.Load.{Load}
 use Rattle.rl_defs.specs.declared.load.LoadRow.{LoadRow}
@@ -13,7 +14,7 @@ use Rattle.rl_defs.specs.Machine.CallRows.{instance_for}
 use Rattle.rl_defs.specs.Machine.Steps.{Row}
 use Rattle.machine_laws.specs.Plans.{Plans}
 use Rattle.machine_laws.specs.Fitting.{InstanceFits, Fitting}
-use Rattle.machine_laws.proofs.Rows.{row_within, row_set_same, row_set_other, length_set}
+use Rattle.machine_laws.proofs.Rows.{row_within, row_set_same, row_set_other}
 use Rattle.machine_laws.proofs.Moves.{Moves, row_moves}
 
 -- each instance is of a load
@@ -32,14 +33,6 @@ row_here : (L : Load) (k : ℕ) (l : LoadRow) → load_row L k ≡ Some l → (0
 row_here L zero l is = absurd cc
 row_here L (suc k) l is = row_within L.loads (suc k) l is
 
-pub length_replicate : {A : Type 0} (n : ℕ) (x : A) → length (replicate n x) ≡ n
-length_replicate zero x = refl
-length_replicate (suc n) x = ap (λ k. suc k) (length_replicate n x)
-
-pub length_map : {A B : Type 0} (f : A → B) (xs : List A) → length (map f xs) ≡ length xs
-length_map f [] = refl
-length_map f (x ∷ xs) = ap (λ k. suc k) (length_map f xs)
-
 -- the first instance of a load
 pub first_fits : (L : Load) (k : ℕ) (l : LoadRow) → load_row L k ≡ Some l → InstanceFits L (first_instance L k l)
 first_fits L k l is =
@@ -48,8 +41,8 @@ first_fits L k l is =
     record {
       some = w.0;
       within = w.1;
-      words = length_replicate (words_of (domain_of L l.domain)) 0 ∙ ap words_of lines;
-      slots = length_map (λ slot. None) (slots_of (domain_of L l.domain)) ∙ ap (λ ls. length (slots_of ls)) lines;
+      words = length-replicate (words_of (domain_of L l.domain)) 0 ∙ ap words_of lines;
+      slots = length-map (slots_of (domain_of L l.domain)) (λ slot. None) ∙ ap (λ ls. length (slots_of ls)) lines;
     }
 
 -- one that changes, not its load nor how many words and slots it has
@@ -113,9 +106,9 @@ instance_moves L e = record {
   cells = λ writes s o change fits. fits;
   hung = λ hangs s o parent place fits. fits;
   rooted = λ s o w fits. fits;
-  word = λ s i k v. instances_changed L s i _ (λ x. refl) (λ x. length_set x.words k v) (λ x. refl);
-  taken = λ s i k. instances_changed L s i _ (λ x. refl) (λ x. refl) (λ x. length_set x.slots k None);
-  filled = λ puts s i k o. instances_changed L s i _ (λ x. refl) (λ x. refl) (λ x. length_set x.slots k (Some o));
+  word = λ s i k v. instances_changed L s i _ (λ x. refl) (λ x. length-set x.words k v) (λ x. refl);
+  taken = λ s i k. instances_changed L s i _ (λ x. refl) (λ x. refl) (λ x. length-set x.slots k None);
+  filled = λ puts s i k o. instances_changed L s i _ (λ x. refl) (λ x. refl) (λ x. length-set x.slots k (Some o));
   ends = λ s i. instances_changed L s i _ (λ x. refl) (λ x. refl) (λ x. refl);
   device = λ saves s b cells fits. fits;
   reload = λ s x left fits. instances_grow L s.instances (instance_for L (load_of_target L x) (load_row L (load_of_target L x))) fits (fresh_fits L (load_of_target L x) (load_row L (load_of_target L x)) refl);

@@ -1,5 +1,6 @@
 -- Each row leaves the state laid out.
 use Rattle.std.proofs.Common.{◌≡◌, ℕ, suc, ◌+◌, ◌-◌, ◌==◌, Bool, true, false, List, length, map, refl, ap, sym, subst, ◌∙◌, if◌then◌else◌, add-one, arith, not, ◌<◌}
+use Rattle.std.proofs.lemmas.List.{length-set}
 use Rattle.rl_defs.specs.declared.values.Owner.{Owner}
 use Rattle.rl_defs.specs.declared.entry.Entry.{Entry}
 use Rattle.rl_defs.specs.declared.load.Load.{Load}
@@ -9,7 +10,6 @@ use Rattle.rl_defs.specs.Machine.Objects.{fresh_object, with_new, without, with_
 use Rattle.rl_defs.specs.Machine.CallRows.{reloaded}
 use Rattle.rl_defs.specs.Machine.Steps.{Row}
 use Rattle.machine_laws.specs.Shape.{Rises, Laid}
-use Rattle.machine_laws.proofs.Rows.{length_set}
 use Rattle.machine_laws.proofs.Objects.{rises_filter, rises_map, rises_append}
 use Rattle.machine_laws.proofs.Pushing.{laid_stack, laid_thread}
 use Rattle.machine_laws.proofs.Moves.{Moves, row_moves}
@@ -34,7 +34,7 @@ laid_objects L s test g keeps laid = record {
 }
 
 -- nothing that the layout reads
-laid_same : (L : Load) (s z : State) → z.stacks ≡ s.stacks → z.threads ≡ s.threads → z.shadows ≡ s.shadows → z.objects ≡ s.objects → z.next_object ≡ s.next_object → Laid L s → Laid L z
+pub laid_same : (L : Load) (s z : State) → z.stacks ≡ s.stacks → z.threads ≡ s.threads → z.shadows ≡ s.shadows → z.objects ≡ s.objects → z.next_object ≡ s.next_object → Laid L s → Laid L z
 laid_same L s z a b c d e laid = record {
   stacks = ap length a ∙ laid.stacks;
   threads = ap length b ∙ laid.threads;
@@ -43,7 +43,7 @@ laid_same L s z a b c d e laid = record {
   started = subst (λ n. 0 < n) (sym e) laid.started;
 }
 
-laid_without : (L : Load) (s : State) (os : List ℕ) → Laid L s → Laid L (without os s)
+pub laid_without : (L : Load) (s : State) (os : List ℕ) → Laid L s → Laid L (without os s)
 laid_without L s os laid = record {
   stacks = laid.stacks;
   threads = laid.threads;
@@ -68,7 +68,7 @@ laid_reload : (L : Load) (s : State) (x i left : ℕ) → Laid L s → Laid L (r
 laid_reload L s x i left laid = record {
   stacks = laid.stacks;
   threads = laid.threads;
-  shadows = length_set s.shadows (x - length L.loads - 1) (record { current = i; left = left }) ∙ laid.shadows;
+  shadows = length-set s.shadows (x - length L.loads - 1) (record { current = i; left = left }) ∙ laid.shadows;
   objects = laid.objects;
   started = laid.started;
 }

@@ -65,7 +65,6 @@ pub mod OwnDoing
 pub mod NeverStuck
 pub mod Unlent
 pub mod FrameSteps
-pub mod OwnExchanges
 pub mod OwnTables
 pub mod Callers
 pub mod CallSteps
@@ -82,6 +81,7 @@ pub mod DoingFits
 pub mod DoneFits
 pub mod RepliedFits
 pub mod BegunFits
+pub mod Charged
 pub mod CalledFits
 pub mod RefusedFits
 pub mod AgainFits

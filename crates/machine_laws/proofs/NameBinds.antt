@@ -1,12 +1,12 @@
 -- Names that are bound: what they hold behind it, and how often.
 use Rattle.std.proofs.Common.{◌≡◌, ◌≢◌, ℕ, zero, suc, ◌+◌, ◌<◌, ◌⊎◌, List, [], ◌∷◌, length, Option, Some, None, slice_get, slice_set, refl, ap, sym, ◌∙◌, arith, inl, inr}
 use Rattle.std.proofs.lemmas.Bool.{cases_eq}
+use Rattle.std.proofs.lemmas.List.{length-set}
 use Rattle.rl_defs.specs.declared.values.Value.{Value}
 use Rattle.rl_defs.specs.Loans.{count}
 use Rattle.rl_defs.specs.Wanted.{Names, held}
 use Rattle.rl_defs.specs.Step.{bind}
 use Rattle.rl_defs.specs.Machine.History.{objects_in}
-use Rattle.machine_laws.proofs.Rows.{length_set}
 use Rattle.machine_laws.proofs.NameCounts.{objects_of, share, objects_first, held_set, held_set_same, held_set_other}
 
 -- names of which no two are alike, that are there, and hold nothing
@@ -22,13 +22,13 @@ pub unused_rest : (k : ℕ) (ks : List ℕ) (names : Names) (v : Option Value) �
 unused_rest k ks names v unused = record {
   apart = λ i j l a b. (let e = unused.apart (suc i) (suc j) l a b in omega (arith, e));
   none = λ i l is. held_set_other names k l v (later_apart k ks names unused i l is) ∙ unused.none (suc i) l is;
-  room = λ i l is. (let lt = unused.room (suc i) l is in let same = length_set names k v in omega (arith, lt, same));
+  room = λ i l is. (let lt = unused.room (suc i) l is in let same = length-set names k v in omega (arith, lt, same));
 }
 
 pub bound_length : (ks : List ℕ) (values : List Value) (names : Names) → length (bind ks values names) ≡ length names
 bound_length [] values names = refl
 bound_length (k ∷ ks) [] names = refl
-bound_length (k ∷ ks) (v ∷ values) names = bound_length ks values (slice_set names k (Some v)) ∙ length_set names k (Some v)
+bound_length (k ∷ ks) (v ∷ values) names = bound_length ks values (slice_set names k (Some v)) ∙ length-set names k (Some v)
 
 -- the objects among the values are held then, beside those that were
 pub count_bound : (p : ℕ) (ks : List ℕ) (values : List Value) (names : Names) → Unused ks names → length ks ≡ length values → count p (objects_of (bind ks values names)) ≡ count p (objects_of names) + count p (objects_in values)

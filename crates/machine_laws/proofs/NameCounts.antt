@@ -1,7 +1,7 @@
 -- How often objects are held by script names, name by name.
 use Rattle.std.proofs.Common.{◌≡◌, ◌≢◌, ℕ, zero, suc, ◌+◌, ◌<◌, ◌≤◌, ◌==◌, false, cond, List, [], ◌∷◌, length, map, Option, Some, None, slice_set, refl, ap, arith, inl, inr}
 use Rattle.std.specs.List.{filter_map}
-use Rattle.std.proofs.lemmas.Bool.{cases_Bool, cases_eq, ne_eqb, eqb-true}
+use Rattle.std.proofs.lemmas.Bool.{cases_Bool, cases_eq, ne_eqb}
 use Rattle.rl_defs.specs.declared.values.Value.{Value}
 use Rattle.rl_defs.specs.declared.values.Value.TheVariants as value
 use Rattle.rl_defs.specs.Loans.{count}
@@ -47,17 +47,6 @@ held_least p (x ∷ names) (suc k) = omega (arith, held_first p x names, held_le
 
 pub held_some : (names : Names) (k o : ℕ) → held names k ≡ Some (value.Obj o) → 0 < count o (objects_of names)
 held_some names k o is = let least = held_least o names k in let mine : share o (held names k) ≡ 1 = rw is (one_here o) in omega (arith, least, mine)
-
--- an object that is held is held by some name
-pub held_by : (names : Names) (o : ℕ) → 0 < count o (objects_of names) → (k : ℕ) × (held names k ≡ Some (value.Obj o))
-held_by [] o some = absurd (omega arith)
-held_by (None ∷ names) o some = let r = held_by names o some in (suc r.0, r.1)
-held_by (Some (value.Num n) ∷ names) o some = let r = held_by names o some in (suc r.0, r.1)
-held_by (Some (value.Cap x) ∷ names) o some = let r = held_by names o some in (suc r.0, r.1)
-held_by (Some (value.Obj p) ∷ names) o some = elim (cases_Bool (p == o)) [
-  | inl e ↦ (zero, rw (eqb-true p o e) refl)
-  | inr e ↦ let some' : 0 < 0 + count o (objects_of names) = rw e at some in let r = held_by names o (omega arith) in (suc r.0, r.1)
-]
 
 -- an object that is held once is held by one name
 pub held_apart : (names : Names) (k l o : ℕ) → count o (objects_of names) ≤ 1 → held names k ≡ Some (value.Obj o) → held names l ≡ Some (value.Obj o) → k ≡ l

@@ -60,27 +60,8 @@ module _ (L : Load) (s : State) (laid : Laid L s) where
   -- and objects that are there behind it and its sweep are of the structs there
   types_after : (e : Entry) (made : State) → Row L s e made → (q : ℕ) → IsIn (sweep made) q → (types_of L (sweep made)).struct_of q ≡ (types_behind L s e).struct_of q
   types_after (entry.New t w o ty values) made r q there = new_types t w o ty values made r q there
-  types_after (entry.Call t c x i m args) made r q there = old_types (entry.Call t c x i m args) made (λ no'. no') r q there
-  types_after (entry.Refuse t c why x m args) made r q there = old_types (entry.Refuse t c why x m args) made (λ no'. no') r q there
-  types_after (entry.Ret t c results) made r q there = old_types (entry.Ret t c results) made (λ no'. no') r q there
-  types_after (entry.Unwound t c) made r q there = old_types (entry.Unwound t c) made (λ no'. no') r q there
-  types_after (entry.Reload t x i left) made r q there = old_types (entry.Reload t x i left) made (λ no'. no') r q there
-  types_after (entry.Again t c x i) made r q there = old_types (entry.Again t c x i) made (λ no'. no') r q there
-  types_after (entry.Trap t i cause) made r q there = old_types (entry.Trap t i cause) made (λ no'. no') r q there
-  types_after (entry.Kill t i) made r q there = old_types (entry.Kill t i) made (λ no'. no') r q there
-  types_after (entry.Drop t o) made r q there = old_types (entry.Drop t o) made (λ no'. no') r q there
-  types_after (entry.Set t o k values) made r q there = old_types (entry.Set t o k values) made (λ no'. no') r q there
-  types_after (entry.Wput t i k v) made r q there = old_types (entry.Wput t i k v) made (λ no'. no') r q there
-  types_after (entry.Take t i slot o) made r q there = old_types (entry.Take t i slot o) made (λ no'. no') r q there
-  types_after (entry.Put t i slot o) made r q there = old_types (entry.Put t i slot o) made (λ no'. no') r q there
-  types_after (entry.DevGet t o b) made r q there = old_types (entry.DevGet t o b) made (λ no'. no') r q there
-  types_after (entry.DevPut t b o) made r q there = old_types (entry.DevPut t b o) made (λ no'. no') r q there
-  types_after (entry.Hang t o k v) made r q there = old_types (entry.Hang t o k v) made (λ no'. no') r q there
-  types_after (entry.Unhang t o k v) made r q there = old_types (entry.Unhang t o k v) made (λ no'. no') r q there
-  types_after (entry.Show t o values) made r q there = old_types (entry.Show t o values) made (λ no'. no') r q there
-  types_after (entry.Skip t number) made r q there = old_types (entry.Skip t number) made (λ no'. no') r q there
-  types_after (entry.Done t) made r q there = old_types (entry.Done t) made (λ no'. no') r q there
   types_after (entry.Free o) made r q there = absurd r
+  types_after other made r q there = old_types other made (λ no'. no') r q there
 
 -- no type of a target changes
 traits_behind : (L : Load) (s : State) (e : Entry) (x : ℕ) → (types_behind L s e).trait_of x ≡ trait_if L (is_target L x) x

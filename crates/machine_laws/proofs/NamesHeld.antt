@@ -27,10 +27,6 @@ use Rattle.machine_laws.proofs.NameCounts.{share, held_set, held_within, held_so
 use Rattle.machine_laws.proofs.NameBinds.{count_bound}
 use Rattle.machine_laws.proofs.NameKinds.{commanding, command_unused}
 
--- a command that binds nothing
-pub done_names : (L : Load) (t : ℕ) (thread : Thread) → (after_command L t thread []).names ≡ thread.names
-done_names L t thread = bind_none (names_of (slice_get (commands_of (row L.clients t)) thread.place)) thread.names
-
 -- the objects that a cell shows hang in it
 objects_listed : (o at : ℕ) (s : State) (w : Value) (values : List Value) → ((v : ℕ) → has (objects_in values) v ≡ true → (k : ℕ) × (hung_in s o k ≡ Some v)) → ((v : ℕ) → w ≡ value.Obj v → hung_in s o at ≡ Some v)
     → (v : ℕ) → has (objects_in (listed w values)) v ≡ true → (k : ℕ) × (hung_in s o k ≡ Some v)
@@ -75,10 +71,7 @@ module _ (L : Load) (s z : State) (t : ℕ) (scripts : ScriptsStand L) (fits : F
   one_name : (next : Command) (ty : ℕ) (values : List ℕ) (w : Value) → Gives next ty values → length (bound_by next) ≡ length (w ∷ [])
   one_name (command.Let name of given) ty values w gives = refl
   one_name (command.Text name of given) ty values w gives = refl
-  one_name (command.Call x m args names) ty values w gives = absurd gives
-  one_name (command.Show name) ty values w gives = absurd gives
-  one_name (command.Drop name) ty values w gives = absurd gives
-  one_name (command.Kill x) ty values w gives = absurd gives
+  one_name other ty values w gives = absurd gives
 
   -- `let` and `text`
   pub makes_held : {w : _} (o ty : ℕ) (values : List ℕ) (m : ClientMakes L s t w o ty values z)

@@ -1,24 +1,21 @@
 -- What script names hold is a root of their client, and is there.
-use Rattle.std.proofs.Common.{◌≡◌, ℕ, ◌+◌, ◌<◌, ◌≤◌, cond, List, [], ◌∷◌, length, Option, Some, None, refl, ap, sym, ◌∙◌, arith, inl, inr}
+use Rattle.std.proofs.Common.{◌≡◌, ℕ, ◌+◌, ◌<◌, ◌≤◌, cond, [], ◌∷◌, length, Option, Some, None, refl, ap, sym, ◌∙◌, arith, inl, inr}
 use Rattle.std.proofs.lemmas.Bool.{cases_Bool}
 use Rattle.rl_defs.specs.declared.values.Owner.{Owner}
 use Rattle.rl_defs.specs.declared.values.Owner.TheVariants as owner
 use Rattle.rl_defs.specs.declared.load.Load.{Load}
-use Rattle.rl_defs.specs.State.{State, StackFrame, Thread, Placement, Root, Hung, row, stack}
+use Rattle.rl_defs.specs.State.{State, Thread, Placement, Root, Hung, row, stack}
 use Rattle.rl_defs.specs.Loans.{count}
-use Rattle.machine_laws.specs.Ledger.{LedgerFrame, same_owner}
-use Rattle.machine_laws.specs.LedgerOf.{frame_entry, entries_of, ledger_of}
+use Rattle.machine_laws.specs.Ledger.{same_owner}
+use Rattle.machine_laws.specs.LedgerOf.{ledger_of}
 use Rattle.machine_laws.specs.LedgerSound.{own_in, is_of, Owned}
 use Rattle.machine_laws.specs.Shape.{Laid}
 use Rattle.machine_laws.proofs.Tops.{bottom, entries, client_within}
 use Rattle.machine_laws.proofs.Seats.{seats, IsIn}
-use Rattle.machine_laws.proofs.Present.{sum_least, same_self, same_is, seated}
+use Rattle.machine_laws.proofs.Present.{seated, own_over}
 use Rattle.machine_laws.proofs.NameCounts.{objects_of}
-
--- the client's own frame is counted with the frames above it
-own_above : (w : Owner) (o : ℕ) (fs : List StackFrame) (rest : List LedgerFrame) → own_in w o rest ≤ own_in w o (entries_of fs rest)
-own_above w o [] rest = omega arith
-own_above w o (f ∷ fs) rest = let r = own_above w o fs (frame_entry f ∷ rest) in omega (arith, r)
+use Rattle.machine_laws.proofs.Sums.{sum_least}
+use Rattle.machine_laws.proofs.Owners.{same_is, same_self}
 
 module _ (L : Load) (s : State) (laid : Laid L s) (owned : Owned L (ledger_of L s)) (t : ℕ) (thread : Thread) (of : row s.threads t ≡ Some thread) (o : ℕ) (some : 0 < count o (objects_of thread.names)) where
   pub name_root : seats s o ≡ Some (Root (owner.Client t))
@@ -26,7 +23,7 @@ module _ (L : Load) (s : State) (laid : Laid L s) (owned : Owned L (ledger_of L 
       let w = client_within L s t thread laid of in
       let party : Owner = owner.Client t in
       let here : own_in party o (bottom t (Some thread) ∷ []) ≡ count o (objects_of thread.names) + 0 = rw (same_self party) refl in
-      let above = own_above party o (stack s t) (bottom t (Some thread) ∷ []) in
+      let above = own_over party o (stack s t) (bottom t (Some thread) ∷ []) in
       let in_stack : own_in party o (bottom t (Some thread) ∷ []) ≤ own_in party o (entries t (stack s t) (row s.threads t)) = rw of above in
       let in_all = sum_least (λ u. own_in party o ((ledger_of L s).stack u)) (length L.clients) t w.0 w.1 in
       let once = owned.once party o refl in

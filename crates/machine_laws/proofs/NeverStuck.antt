@@ -1,4 +1,4 @@
--- No state is stuck: clients that wait for serial instances wait for ever lower ranks, so one of them doesn't wait.
+-- Not all clients wait: who waits does so for a serial instance of an ever lower rank, so one of them does not wait.
 use Rattle.std.proofs.Common.{◌≡◌, ℕ, zero, suc, ◌<◌, ◌≤◌, true, List, [], ◌∷◌, Option, Some, None, refl, sym, arith, inl, inr, length}
 use Rattle.std.proofs.lemmas.Bool.{cases_Bool}
 use Rattle.rl_defs.specs.declared.values.Owner.TheVariants as owner

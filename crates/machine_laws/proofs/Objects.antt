@@ -76,10 +76,6 @@ found_append o (x ∷ xs) ys = elim (cases_Bool (x.number == o)) [
 ]
 
 -- lists stay rising
-pub rises_later : (n next m : ℕ) (xs : List Object) → Rises n next xs → next ≤ m → Rises n m xs
-rises_later n next m [] rises le = tt
-rises_later n next m (x ∷ xs) rises le = (rises.0, (let a = rises.1 in omega arith), rises_later x.number next m xs rises.2 le)
-
 pub rises_from : (k n next : ℕ) (xs : List Object) → Rises n next xs → k ≤ n → Rises k next xs
 rises_from k n next [] rises le = tt
 rises_from k n next (x ∷ xs) rises le = ((let a = rises.0 in omega arith), rises.1, rises.2)

@@ -1,7 +1,7 @@
 -- The objects behind each row have cells that fit.
-use Rattle.std.proofs.Common.{◌≡◌, ℕ, zero, suc, ◌-◌, ◌<◌, ◌==◌, ◌⊎◌, inl, inr, true, if◌then◌else◌, List, [], ◌∷◌, length, Option, Some, None, slice_get, refl, ap, sym, subst, ◌∙◌, arith}
-use Rattle.std.specs.List.{slice_index_or}
+use Rattle.std.proofs.Common.{◌≡◌, ℕ, ◌-◌, ◌<◌, ◌==◌, ◌⊎◌, inl, inr, true, if◌then◌else◌, List, [], length, Option, Some, None, slice_get, refl, ap, sym, subst, ◌∙◌, arith}
 use Rattle.std.proofs.lemmas.Bool.{cases_Bool, eqb-true}
+use Rattle.std.proofs.lemmas.Option.{slice_get-get_or}
 use Rattle.rl_defs.specs.declared.values.Owner.{Owner}
 use Rattle.rl_defs.specs.declared.entry.Entry.{Entry}
 use Rattle.rl_defs.specs.declared.entry.Entry.TheVariants as entry
@@ -103,15 +103,7 @@ command_here s thread (Some d) c e = elim (cases_Bool (can_do s thread.names d))
 values_suit : (L : Load) (t p : ℕ) (c : Command) (ty : ℕ) (values : List ℕ) → Gives c ty values → CommandFits L t p c → numbers_suit (cells_of L.tables ty) values ≡ true
 values_suit L t p (command.Let name of given) ty values gives fits = rw (gives.0, gives.1) fits.1
 values_suit L t p (command.Text name of given) ty values gives fits = rw (gives.0, gives.1) fits.1
-values_suit L t p (command.Call x m args names) ty values gives fits = absurd gives
-values_suit L t p (command.Show name) ty values gives fits = absurd gives
-values_suit L t p (command.Drop name) ty values gives fits = absurd gives
-values_suit L t p (command.Kill x) ty values gives fits = absurd gives
-
-block_there : (blocks : List (List ℕ)) (b : ℕ) → b < length blocks → slice_get blocks b ≡ Some (slice_index_or blocks b [])
-block_there [] b lt = absurd (omega (arith, lt))
-block_there (x ∷ blocks) zero lt = refl
-block_there (x ∷ blocks) (suc b) lt = block_there blocks b (omega (arith, lt))
+values_suit L t p other ty values gives fits = absurd gives
 
 module _ (L : Load) (s : State) (plans : Plans L) (tables : HasTables L.tables) (scripts : ScriptsStand L) (laid : Laid L s) (fits : Fitting L s) where
   filled_before : (o : ℕ) (x : Object) → object_of s o ≡ Some x → IsFilled L x
@@ -165,7 +157,7 @@ module _ (L : Load) (s : State) (plans : Plans L) (tables : HasTables L.tables) 
       let d = makes.1 in
       let suits = does_fit plans tables laid fits (λ c e. cc) d in
       let within : b < length s.blocks = (let lt = suits.1 in let e = fits.device.count in omega (arith, lt, e)) in
-      let whole = fits.device.each b (block s b) (block_there s.blocks b within) in
+      let whole = fits.device.each b (block s b) (slice_get-get_or s.blocks b [] within) in
       λ q y is. filled_written o (instead (block s b)) (gone_on s t d.after (with_fuel (d.fuel - 1) d.thread)) refl
       (λ x here. block_cells (cells_of L.tables x.ty) (block s b) (let h = suits.0 in rw here at h) whole) q y (ap (λ (st : State). object_of st q) (sym d.becomes) ∙ is)
   filled_row e z makes = filled_same e z (λ new. new) (λ writes. writes) makes

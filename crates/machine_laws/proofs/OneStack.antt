@@ -6,8 +6,9 @@ use Rattle.rl_defs.specs.State.{Placement, Root, Hung, stack}
 use Rattle.rl_defs.specs.Machine.Seen.{slots}
 use Rattle.machine_laws.specs.Ledger.{LedgerFrame, at, alive, lent_in, loans_in}
 use Rattle.machine_laws.specs.LedgerSound.{own_in, slots_held, is_of, Covered, OwnedIn}
-use Rattle.machine_laws.proofs.Sums.{at_same, at_other, sum_at, sum_least}
+use Rattle.machine_laws.proofs.Sums.{sum_at, sum_least}
 use Rattle.machine_laws.proofs.Sweeping.{BeforeSweepIn, covered_weaker}
+use Rattle.machine_laws.proofs.Rows.{at_same, at_other}
 
 -- a claim on the stack at each place, by the changed one and the others
 pub at_each : {A : Type 0} (P : ℕ → A → Type 0) (t : ℕ) (x : A) (f : ℕ → A) (k : ℕ) → P t x → (((k ≡ t) → ⊥) → P k (f k)) → P k (at t x f k)

@@ -2,7 +2,7 @@
 use Rattle.std.proofs.Common.{◌≡◌, refl, sym, ◌∙◌, ap, subst, ℕ, ◌+◌, ◌<◌, ◌≤◌, ◌==◌, ◌⊎◌, Bool, true, false, cond, ◌&&◌, ◌||◌, List, [], ◌∷◌, map, Option, Some, None, slice_get, arith, true≢false, inl, inr, is_some}
 use Rattle.std.specs.Prelude.{if◌then◌else◌}
 use Rattle.std.specs.List.{slice_index_or, list_all, list_any, cons_option}
-use Rattle.std.proofs.lemmas.Bool.{cases_Bool, cases_lt, eqb-true, eq-eqb, ne_eqb}
+use Rattle.std.proofs.lemmas.Bool.{cases_Bool, cases_lt, eqb-true, eq-eqb, ne_eqb, not-true, or_right}
 use Rattle.rl_defs.specs.declared.values.Value.{Value}
 use Rattle.rl_defs.specs.declared.values.Value.TheVariants as value
 use Rattle.rl_defs.specs.declared.values.Arg.{Arg}
@@ -38,11 +38,11 @@ use Rattle.rl_defs.proofs.CodeAnswers.{gives_up}
 use Rattle.rl_defs.proofs.CodeWidths.{length-kinds_at}
 use Rattle.machine_laws.specs.Registers.{own, Parted, HasTables, given_away, used, shown}
 use Rattle.machine_laws.proofs.OwnCounts.{weight, own_least, own_none, own_unlent}
-use Rattle.machine_laws.proofs.OwnMarks.{Marked, mark, not_true, marked_of, parted_of, spare_in, Owned as IsOwned, owned_in, owned_weight}
+use Rattle.machine_laws.proofs.OwnMarks.{Marked, mark, marked_of, parted_of, spare_in, Owned as IsOwned, owned_in, owned_weight}
 use Rattle.machine_laws.proofs.OwnRules.{keeps_own}
 use Rattle.machine_laws.proofs.OwnHeads.{none_own}
 use Rattle.machine_laws.proofs.OwnWork.{owned_own, met_at}
-use Rattle.machine_laws.proofs.OwnGiving.{objects_of, moved_objects, result_objects, or_right, others_keep, marks_given, give_counts, moved_given, moved_distinct}
+use Rattle.machine_laws.proofs.OwnGiving.{objects_of, moved_objects, result_objects, others_keep, marks_given, give_counts, moved_given, moved_distinct, owning_here, owning_rest}
 
 -- a return leaves nothing
 abbrev pub is_return : Action → Bool
@@ -117,7 +117,7 @@ still_own lent regs new r p o same some =
     omega (arith, own_least lent p new r.number, ap (weight lent p) same, owned_weight lent p (value_in regs r) o, ap (λ x. count p (x ∷ [])) (held_object lent regs r o))
 
 -- an object that is the only one counted
-is_it : (x p : ℕ) → 0 < count p (x ∷ []) → x ≡ p
+pub is_it : (x p : ℕ) → 0 < count p (x ∷ []) → x ≡ p
 is_it x p some = elim (cases_Bool (x == p)) [
   | inl is ↦ eqb-true x p is
   | inr isn't ↦ let none : count p (x ∷ []) ≡ 0 = ap (λ (b : Bool). (if b then 1 else 0) + 0) isn't in absurd (omega (arith, none))
@@ -158,22 +158,9 @@ hang_apart tables kinds o v place has m some suits =
     rw (ne_eqb v.number o.number (λ e. hang_kinds tables place (kind_in kinds o) (kind_in kinds v) has m some suits (ap (λ n. slice_index_or kinds n held.Empty) (sym e)))) refl
 
 -- a register that is lent in a call isn't among those that are moved
-or_more : (a b : Bool) → b ≡ true → (a || b) ≡ true
-or_more true b e = refl
-or_more false b e = e
-
 any_first : (b : Bool) (q : Register) (ls xs : List Register) → list_any (λ r. is_among r ls) (cond b (q ∷ xs) xs) ≡ cond b (is_among q ls || list_any (λ r. is_among r ls) xs) (list_any (λ r. is_among r ls) xs)
 any_first true q ls xs = refl
 any_first false q ls xs = refl
-
-any_rest : (b found rest : Bool) → cond b (found || rest) rest ≡ false → rest ≡ false
-any_rest true found rest e = or_right found rest e
-any_rest false found rest e = e
-
-any_here : (b found rest : Bool) → b ≡ true → found ≡ true → cond b (found || rest) rest ≡ false → ⊥
-any_here true true rest x y e = cc
-any_here true false rest x y e = cc
-any_here false found rest x y e = cc
 
 lent_apart : (kinds : Kinds) (l : Register) (ls ps : List Register) → is_own (kind_in kinds l) ≡ true → ((q : Register) → q.number ≡ l.number → is_among q ls ≡ true) → list_any (λ r. is_among r ls) (owning kinds ps) ≡ false → is_among l ps ≡ false
 lent_apart kinds l ls [] o among e = refl
@@ -183,8 +170,8 @@ lent_apart kinds l ls (q ∷ ps) o among e =
     elim (cases_Bool (q.number == l.number)) [
       | inl is ↦
           let same = eqb-true q.number l.number is in
-          absurd (any_here (is_own (kind_in kinds q)) (is_among q ls) rest (ap (λ n. is_own (slice_index_or kinds n held.Empty)) same ∙ o) (among q same) first)
-      | inr isn't ↦ rw isn't (lent_apart kinds l ls ps o among (any_rest (is_own (kind_in kinds q)) (is_among q ls) rest first))
+          absurd (owning_here (is_own (kind_in kinds q)) (is_among q ls) rest (ap (λ n. is_own (slice_index_or kinds n held.Empty)) same ∙ o) (among q same) first)
+      | inr isn't ↦ rw isn't (lent_apart kinds l ls ps o among (owning_rest (is_own (kind_in kinds q)) rest (is_among q ls) first))
     ]
 
 among_here : (l q : Register) (rest : List Register) → q.number ≡ l.number → is_among q (l ∷ rest) ≡ true
@@ -208,7 +195,7 @@ lends types lent kinds regs ps ls (arg.Lent r ∷ args) p fine marked met apart 
       | inl lt ↦
           shows_one types lent kinds regs (all_given_up ps regs) r p fine marked here
           (λ o. others_keep ps regs r (lent_apart kinds r ls ps o (λ q e. among q (among_here r q (lent_registers args) e)) apart)) lt
-      | inr ge ↦ lends types lent kinds regs ps ls args p fine marked rest apart (λ q e. among q (or_more (r.number == q.number) (is_among q (lent_registers args)) e)) (omega arith)
+      | inr ge ↦ lends types lent kinds regs ps ls args p fine marked rest apart (λ q e. among q (or_right (r.number == q.number) (is_among q (lent_registers args)) e)) (omega arith)
     ]
 
 returned : (types : Typing) (lent : List ℕ) (kinds : Kinds) (regs : Registers) (results : List Register) (p : ℕ) → Fine types kinds regs → Marked lent kinds regs → all_given kinds results ≡ true → owns_nothing (leave_all results kinds) ≡ true → count p (own lent (all_given_up results regs)) ≡ 0
@@ -291,7 +278,7 @@ pays types lent d n kinds sight live regs (instr.Call c method args results e la
       uses = λ p some. absurd (no_object p some);
       shows = λ p some.
           lends types lent kinds regs (passed args) (lent_registers args) args p knows.fine knows.marked (and_right (meets Target (kind_in kinds c)) (list_all (is_met kinds) (map read_of_arg args)) knows.met)
-          (not_true (list_any (λ r. is_among r (lent_registers args)) (owning kinds (passed args))) knows.apart) (λ q x. x) some;
+          (not-true (list_any (λ r. is_among r (lent_registers args)) (owning kinds (passed args))) knows.apart) (λ q x. x) some;
       ends = λ r. absurd (cc);
     })
 pays types lent d n kinds sight live regs (instr.Ret results) knows =

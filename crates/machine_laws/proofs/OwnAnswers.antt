@@ -2,7 +2,8 @@
 use Rattle.std.proofs.Common.{◌≡◌, refl, sym, ◌∙◌, ap, subst, ℕ, zero, suc, ◌+◌, ◌<◌, ◌==◌, Bool, true, false, not, ◌&&◌, List, [], ◌∷◌, length, Option, Some, None, slice_get, arith}
 use Rattle.std.specs.Prelude.{if◌then◌else◌, slice_set}
 use Rattle.std.specs.List.{list_all}
-use Rattle.std.proofs.lemmas.Bool.{eq-eqb, eqb-true}
+use Rattle.std.proofs.lemmas.Bool.{eq-eqb, eqb-true, not-true, or_parts, eqb-false}
+use Rattle.std.proofs.lemmas.List.{get_or-set_same}
 use Rattle.rl_defs.specs.declared.values.Value.{Value}
 use Rattle.rl_defs.specs.declared.values.Value.TheVariants as value
 use Rattle.rl_defs.specs.declared.values.RpcCode.{RpcCode}
@@ -36,11 +37,11 @@ use Rattle.rl_defs.proofs.CodeAnswers.{waiting_answers_fit, gives_up, failed_lab
 use Rattle.rl_defs.proofs.CodeWidths.{length-kinds_at, length-leave_all}
 use Rattle.machine_laws.specs.Registers.{own, Parted, HasTables, is_lent_kind, received}
 use Rattle.machine_laws.proofs.OwnCounts.{weight, weight_of}
-use Rattle.machine_laws.proofs.OwnMarks.{mark, Marked, mark_set, mark_emptied, not_true, marked_of, parted_of, spare_set}
+use Rattle.machine_laws.proofs.OwnMarks.{mark, Marked, mark_set, mark_emptied, marked_of, parted_of, spare_set}
 use Rattle.machine_laws.proofs.OwnRules.{keeps_own}
-use Rattle.machine_laws.proofs.OwnHeads.{index_here, index_other, different, next_own, jumped_own}
+use Rattle.machine_laws.proofs.OwnHeads.{index_other, next_own, jumped_own}
 use Rattle.machine_laws.proofs.OwnWork.{met_at}
-use Rattle.machine_laws.proofs.OwnGiving.{or_left, or_right, moved_given, marks_given}
+use Rattle.machine_laws.proofs.OwnGiving.{moved_given, marks_given}
 use Rattle.machine_laws.proofs.OwnActs.{waiting}
 
 -- none of the objects is lent
@@ -64,7 +65,7 @@ unlent_weight lent p o e = ap (weight_of p o) e
 made_gains : (types : Typing) (lent : List ℕ) (kinds : Kinds) (regs : Registers) (a : Register) (k : RegKind) (o : ℕ) → Fits types kinds regs → Marked lent kinds regs → (spares kinds a && true) ≡ true → mark lent k (Some (value.Obj o)) ≡ true → has lent o ≡ false → Gained lent (with_kind kinds a k) regs (o ∷ []) (with_value regs a (Some (value.Obj o)))
 made_gains types lent kinds regs a k o fit marked spared m unlent = record {
   marked = mark_set lent kinds regs a.number k (Some (value.Obj o)) marked m;
-  counts = λ p. omega (arith, spare_set types lent kinds regs p a (Some (value.Obj o)) fit marked (not_true (is_own (kind_in kinds a)) (and_left (spares kinds a) true spared)), unlent_weight lent p o unlent);
+  counts = λ p. omega (arith, spare_set types lent kinds regs p a (Some (value.Obj o)) fit marked (not-true (is_own (kind_in kinds a)) (and_left (spares kinds a) true spared)), unlent_weight lent p o unlent);
 }
 
 hung_mark : (lent : List ℕ) (h : Option ℕ) (v : ℕ) → has lent v ≡ false → mark lent (own_kind h) (Some (value.Obj v)) ≡ true
@@ -73,7 +74,7 @@ hung_mark lent (Some s) v e = unlent_mark lent v e
 
 -- a register whose object has left
 left_spare : (kinds : Kinds) (a : Register) (b : Bool) → is_own (kind_in kinds a) ≡ b → length kinds ≡ 32 → is_own (kind_in (if b then with_kind kinds a held.Empty else kinds) a) ≡ false
-left_spare kinds a true e wide = let below = a.below in ap is_own (index_here kinds a.number held.Empty held.Empty (omega arith))
+left_spare kinds a true e wide = let below = a.below in ap is_own (get_or-set_same kinds a.number held.Empty held.Empty (omega arith))
 left_spare kinds a false e wide = e
 
 went_gains : (types : Typing) (lent : List ℕ) (kinds : Kinds) (regs : Registers) (a : Register) → length kinds ≡ 32 → Fits types (leave kinds a) regs → Marked lent (leave kinds a) regs → Gained lent (leave kinds a) regs [] (with_value regs a None)
@@ -105,9 +106,9 @@ value_first p (value.Cap x) values = omega arith
 others_spared : (kinds : Kinds) (r : Register) (k : RegKind) (rs : List Register) → is_among r rs ≡ false → list_all (spares kinds) rs ≡ true → list_all (spares (with_kind kinds r k)) rs ≡ true
 others_spared kinds r k [] e spared = refl
 others_spared kinds r k (q ∷ rs) e spared =
-    let apart = different q.number r.number (or_left (q.number == r.number) (is_among r rs) e) in
+    let apart = eqb-false q.number r.number (or_parts (q.number == r.number) (is_among r rs) e).0 in
     let here : spares (with_kind kinds r k) q ≡ true = ap (λ x. not (is_own x)) (index_other kinds r.number q.number k held.Empty (λ s. apart (sym s))) ∙ and_left (spares kinds q) (list_all (spares kinds) rs) spared in
-    rw here (others_spared kinds r k rs (or_right (q.number == r.number) (is_among r rs) e) (and_right (spares kinds q) (list_all (spares kinds) rs) spared))
+    rw here (others_spared kinds r k rs (or_parts (q.number == r.number) (is_among r rs) e).1 (and_right (spares kinds q) (list_all (spares kinds) rs) spared))
 
 put_gains : (types : Typing) (lent : List ℕ) (ks : List Kind) (rs : List Register) (values : List Value) (kinds : Kinds) (regs : Registers) → length ks ≡ length rs → are_values types ks values ≡ true → list_all (λ k. not (is_lent_kind k)) ks ≡ true → list_all (spares kinds) rs ≡ true → are_distinct rs ≡ true → Fine types kinds regs → Marked lent kinds regs → Unlent lent (objects_in values) → Gained lent (put_all (paired ks rs) kinds) regs (objects_in values) (put_values rs values regs)
 put_gains types lent [] [] [] kinds regs many are plain spared distinct fine marked unlent = stays_gains lent kinds regs marked
@@ -118,7 +119,7 @@ put_gains types lent (k ∷ ks) (r ∷ rs) [] kinds regs many are plain spared d
 put_gains types lent (k ∷ ks) (r ∷ rs) (v ∷ values) kinds regs many are plain spared distinct fine marked unlent =
     let of = and_left (fits_kind types (as_register k) (Some v)) (are_values types ks values) are in
     let others = and_right (fits_kind types (as_register k) (Some v)) (are_values types ks values) are in
-    let apart = not_true (is_among r rs) (and_left (not (is_among r rs)) (are_distinct rs) distinct) in
+    let apart = not-true (is_among r rs) (and_left (not (is_among r rs)) (are_distinct rs) distinct) in
     let here : Unlent lent (objects_in (v ∷ [])) = λ o some. unlent o (omega (arith, value_first o v values)) in
     let later : Unlent lent (objects_in values) = λ o some. unlent o (omega (arith, value_first o v values)) in
     let plain_here = and_left (not (is_lent_kind k)) (list_all (λ x. not (is_lent_kind x)) ks) plain in
@@ -132,7 +133,7 @@ put_gains types lent (k ∷ ks) (r ∷ rs) (v ∷ values) kinds regs many are pl
     (mark_set lent kinds regs r.number (as_register k) (Some v) marked (value_mark lent types k v plain_here here)) later in
     record {
       marked = next.marked;
-      counts = λ p. omega (arith, next.counts p, value_first p v values, value_weight lent p v here, spare_set types lent kinds regs p r (Some v) fine.fits marked (not_true (is_own (kind_in kinds r)) (and_left (spares kinds r) (list_all (spares kinds) rs) spared)));
+      counts = λ p. omega (arith, next.counts p, value_first p v values, value_weight lent p v here, spare_set types lent kinds regs p r (Some v) fine.fits marked (not-true (is_own (kind_in kinds r)) (and_left (spares kinds r) (list_all (spares kinds) rs) spared)));
     }
 
 set_twice : (regs : Registers) (a : ℕ) → slice_set (slice_set regs a None) a None ≡ slice_set regs a None
@@ -182,7 +183,7 @@ failed_gains types lent d kinds c method args results e label failure regs waits
     let given = leave_all (passed args) kinds in
     record {
       marked = mark_set lent given regs e.number held.Num (Some (value.Num (code_number failure))) waits.marked refl;
-      counts = λ p. spare_set types lent given regs p e (Some (value.Num (code_number failure))) waits.fits waits.marked (not_true (is_own (kind_in given e)) (and_left (spares given e) (list_all (spares given) results) waits.spared));
+      counts = λ p. spare_set types lent given regs p e (Some (value.Num (code_number failure))) waits.fits waits.marked (not-true (is_own (kind_in given e)) (and_left (spares given e) (list_all (spares given) results) waits.spared));
     }
 
 gains : (types : Typing) (lent : List ℕ) (d : Domain) (kinds : Kinds) (i : Instr) (a : Answer) (regs : Registers) → Waits types lent d kinds i regs → FitsAnswer types d kinds i a → Unlent lent (received a) → Gained lent (behind d kinds i a) regs (received a) (answered i a regs)

@@ -33,10 +33,10 @@ use Rattle.machine_laws.proofs.Tops.{under}
 use Rattle.machine_laws.proofs.FrameRows.{doing, actor, actor_runs}
 use Rattle.machine_laws.proofs.OwnRows.{at_most_once}
 use Rattle.machine_laws.proofs.OwnAnswers.{Unlent}
-use Rattle.machine_laws.proofs.OwnEntries.{has_counted}
 use Rattle.machine_laws.proofs.CodeDoing.{NotTrap, CodeDoes, body_fits, code_does}
 use Rattle.machine_laws.proofs.Doing.{CodeAfter, code_after}
 use Rattle.machine_laws.proofs.Counting.{count_append, taken}
+use Rattle.machine_laws.proofs.Counts.{has_counted}
 
 -- the actions that are answered at once, with their answers
 abbrev pub IsDone : Action → Answer → Type 0
@@ -54,18 +54,7 @@ IsDone act a = ⊥
 
 pub done_no_trap : (act : Action) (a : Answer) → IsDone act a → NotTrap act
 done_no_trap (action.Trap k) a done c e = absurd done
-done_no_trap (action.New ty) a done c e = cc
-done_no_trap (action.Drop o) a done c e = cc
-done_no_trap (action.Set o k values) a done c e = cc
-done_no_trap (action.Wput k v) a done c e = cc
-done_no_trap (action.Take k) a done c e = cc
-done_no_trap (action.Put k o) a done c e = cc
-done_no_trap (action.DevGet o b) a done c e = cc
-done_no_trap (action.DevPut b o) a done c e = cc
-done_no_trap (action.Hang q k o) a done c e = cc
-done_no_trap (action.Unhang q k) a done c e = cc
-done_no_trap (action.Call x m args) a done c e = cc
-done_no_trap (action.Ret results) a done c e = cc
+done_no_trap other a done c e = cc
 
 -- a native body that does something does what it had chosen
 pub native_kept : (L : Load) (s : State) (f : StackFrame) (fuel : ℕ) (held : List ℕ) (kept act : Action) (rest : ℕ) (frame : StackFrame) → by_body L s fuel f (body.Native held kept) ≡ Acts act rest frame → NotTrap act → (frame ≡ f) × (act ≡ kept)
@@ -74,18 +63,7 @@ native_kept L s f (suc fuel) held (action.New ty) act rest frame e no_trap = eli
   | inl room ↦ let e' : Acts (action.New ty) (suc fuel) f ≡ Acts act rest frame = rw room at e in (cc, cc)
   | inr full ↦ let e' : Acts (action.Trap cause.HeapFull) (suc fuel) f ≡ Acts act rest frame = rw full at e in absurd (no_trap cause.HeapFull (let h : action.Trap cause.HeapFull ≡ act = cc in sym h))
 ]
-native_kept L s f (suc fuel) held (action.Drop o) act rest frame e no_trap = (cc, cc)
-native_kept L s f (suc fuel) held (action.Set o k values) act rest frame e no_trap = (cc, cc)
-native_kept L s f (suc fuel) held (action.Wput k v) act rest frame e no_trap = (cc, cc)
-native_kept L s f (suc fuel) held (action.Take k) act rest frame e no_trap = (cc, cc)
-native_kept L s f (suc fuel) held (action.Put k o) act rest frame e no_trap = (cc, cc)
-native_kept L s f (suc fuel) held (action.DevGet o b) act rest frame e no_trap = (cc, cc)
-native_kept L s f (suc fuel) held (action.DevPut b o) act rest frame e no_trap = (cc, cc)
-native_kept L s f (suc fuel) held (action.Hang q k o) act rest frame e no_trap = (cc, cc)
-native_kept L s f (suc fuel) held (action.Unhang q k) act rest frame e no_trap = (cc, cc)
-native_kept L s f (suc fuel) held (action.Call x m args) act rest frame e no_trap = (cc, cc)
-native_kept L s f (suc fuel) held (action.Ret results) act rest frame e no_trap = (cc, cc)
-native_kept L s f (suc fuel) held (action.Trap c) act rest frame e no_trap = (cc, cc)
+native_kept L s f (suc fuel) held other act rest frame e no_trap = (cc, cc)
 
 -- What a frame has of its own changes by what it gives away and receives; it has what it uses, and what it shows or it was lent that.
 pub record DoesOwn (f after : StackFrame) (act : Action) (a : Answer) : Type 0 where

@@ -1,9 +1,9 @@
 -- A frame begins with the objects that its call moved as its own; and what holds of registers holds under each typing of their objects.
-use Rattle.std.proofs.Common.{◌≡◌, refl, sym, ◌∙◌, ap, ℕ, zero, suc, ◌+◌, ◌-◌, ◌<◌, ◌≤◌, ◌==◌, Bool, true, false, cond, not, ◌||◌, List, [], ◌∷◌, ◌++◌, length, map, Option, Some, None, slice_get, arith, one-add, suc-add, zero-add, append_assoc, length-append, inl, inr}
-use Rattle.std.specs.Prelude.{if◌then◌else◌, slice_set, replicate}
+use Rattle.std.proofs.Common.{◌≡◌, refl, sym, ◌∙◌, ap, ℕ, zero, suc, ◌+◌, ◌-◌, ◌<◌, ◌≤◌, ◌==◌, Bool, true, false, cond, not, List, [], ◌∷◌, ◌++◌, length, map, Option, Some, None, slice_get, arith, one-add, suc-add, zero-add, append_assoc, length-append, inl, inr}
+use Rattle.std.specs.Prelude.{slice_set, replicate}
 use Rattle.std.specs.List.{slice_index_or, position_or_len}
 use Rattle.std.proofs.lemmas.List.{length-map}
-use Rattle.std.proofs.lemmas.Bool.{cases_Bool, eqb-true, false_from_ne_true}
+use Rattle.std.proofs.lemmas.Bool.{cases_Bool, false_from_ne_true}
 use Rattle.rl_defs.specs.declared.bundle.Numbered.{Numbered}
 use Rattle.rl_defs.specs.declared.values.Arg.{Arg}
 use Rattle.rl_defs.specs.declared.values.Arg.TheVariants as given
@@ -17,7 +17,6 @@ use Rattle.rl_defs.specs.declared.code.DomainLine.TheVariants as line
 use Rattle.rl_defs.specs.declared.tables.Kind.{Kind}
 use Rattle.rl_defs.specs.declared.tables.Kind.TheVariants as kind
 use Rattle.rl_defs.specs.declared.tables.MethodRow.{MethodRow}
-use Rattle.rl_defs.specs.Words.{same_bytes}
 use Rattle.rl_defs.specs.DomainValue.{Domain}
 use Rattle.rl_defs.specs.Domains.{is_native, begins_function}
 use Rattle.rl_defs.specs.CodeNames.{methods_of, method_number, method_named, row_at, params_of, domain_trait}
@@ -37,6 +36,8 @@ use Rattle.machine_laws.specs.Registers.{own, Parted, passes_as, all_pass_as, Re
 use Rattle.machine_laws.proofs.OwnCounts.{weight, weight_of, own_first}
 use Rattle.machine_laws.proofs.OwnMarks.{mark, parted_of}
 use Rattle.machine_laws.proofs.OwnAnswers.{one_more}
+use Rattle.machine_laws.proofs.Contents.{same_list}
+use Rattle.machine_laws.proofs.Counts.{has_counted, counted_has}
 
 -- the kinds at a function's first line are the parameters', and no others
 set_seam : (front : Kinds) (k y : RegKind) (rest : Kinds) → slice_set (front ++ k ∷ rest) (length front) y ≡ front ++ y ∷ rest
@@ -73,15 +74,6 @@ passes_first {A = A} test (y ∷ xs) x here = elim (cases_Bool (test y)) [
       passes_first test xs x (sym later ∙ here)
 ]
 
-pub same_list : (xs ys : List ℕ) → same_bytes xs ys ≡ true → xs ≡ ys
-same_list [] [] e = refl
-same_list [] (y ∷ ys) e = absurd (cc)
-same_list (x ∷ xs) [] e = absurd (cc)
-same_list (x ∷ xs) (y ∷ ys) e =
-    let here : x ≡ y = eqb-true x y (and_left (x == y) (same_bytes xs ys) e) in
-    let rest : xs ≡ ys = same_list xs ys (and_right (x == y) (same_bytes xs ys) e) in
-    cc
-
 begins_kinds : (d : Domain) (kinds : Kinds) (name : List ℕ) (form : DomainLine) → begins_function name form ≡ true → after_line d kinds form ≡ entry_kinds (params_of (method_named d.tables (domain_trait d) name))
 begins_kinds d kinds name (line.Function n) b = ap (λ x. entry_kinds (params_of (method_named d.tables (domain_trait d) x))) (same_list n name b)
 begins_kinds d kinds name form b = absurd (cc)
@@ -114,11 +106,11 @@ record Parts (loans : List ℕ) (args : List Arg) : Type 0 where
   moved : (o : ℕ) → 0 < count o (moved_of args) → has loans o ≡ false
   lent : (o : ℕ) → 0 < count o (lent_of args) → has loans o ≡ true
 
-more_moved : (o : ℕ) (a : Arg) (args : List Arg) → count o (moved_of (a ∷ args)) ≡ count o (moved_of (a ∷ [])) + count o (moved_of args)
+pub more_moved : (o : ℕ) (a : Arg) (args : List Arg) → count o (moved_of (a ∷ args)) ≡ count o (moved_of (a ∷ [])) + count o (moved_of args)
 more_moved o (given.Moved q) args = omega arith
 more_moved o a args = omega arith
 
-more_lent : (o : ℕ) (a : Arg) (args : List Arg) → count o (lent_of (a ∷ args)) ≡ count o (lent_of (a ∷ [])) + count o (lent_of args)
+pub more_lent : (o : ℕ) (a : Arg) (args : List Arg) → count o (lent_of (a ∷ args)) ≡ count o (lent_of (a ∷ [])) + count o (lent_of args)
 more_lent o (given.Lent q) args = omega arith
 more_lent o a args = omega arith
 
@@ -165,28 +157,6 @@ args_counted lent p j [] parts = empty_count lent p j
 args_counted lent p j (a ∷ args) parts =
     omega (arith, own_first lent p (Some (value_of a)) (map (λ x. Some (value_of x)) args ++ replicate j None), arg_weight lent p a (parts_first lent a args parts), more_moved p a args, args_counted lent p j args (parts_rest lent a args parts))
 
--- what is counted is there
-pub counted_has : (xs : List ℕ) (o : ℕ) → 0 < count o xs → has xs o ≡ true
-counted_has [] o some = absurd (omega arith)
-counted_has (x ∷ xs) o some = elim (cases_Bool (x == o)) [
-  | inl is ↦ rw is refl
-  | inr isn't ↦
-      let rest : count o (x ∷ xs) ≡ 0 + count o xs = ap (λ (b : Bool). (if b then 1 else 0) + count o xs) isn't in
-      rw isn't (counted_has xs o (omega arith))
-]
-
-pub has_counted : (xs : List ℕ) (o : ℕ) → has xs o ≡ true → 0 < count o xs
-has_counted [] o is = absurd (cc)
-has_counted (x ∷ xs) o is = elim (cases_Bool (x == o)) [
-  | inl same ↦ rw same (omega arith)
-  | inr other ↦
-      let rest : has xs o ≡ true = sym (ap (λ b. b || has xs o) other) ∙ is in
-      rw other (omega (arith, has_counted xs o rest))
-]
-
-unlent_of : (lent : List ℕ) (o : ℕ) → (has lent o ≡ true → ⊥) → has lent o ≡ false
-unlent_of lent o barred = false_from_ne_true (has lent o) barred
-
 -- A frame begins with registers that fit, and with what its call moved as its own.
 pub record BeginsOwn (types : Typing) (d : Domain) (place : ℕ) (args : List Arg) : Type 0 where
   pub fits : FitsStand types d (record { at = place; regs = entry_registers args })
@@ -201,7 +171,7 @@ begins_own d types m place args keeps native given at passes apart =
     let small = (small_method d.tables (domain_trait d) m given.method keeps.small given.row).params in
     let many : length ks ≡ length args = as_many types ks (map value_of args) given.values ∙ length-map args value_of in
     let parts : Parts lent args = record {
-      moved = λ o some. unlent_of lent o (λ is. apart o some (has_counted lent o is));
+      moved = λ o some. false_from_ne_true (has lent o) (λ is. apart o some (has_counted lent o is));
       lent = λ o some. counted_has lent o some;
     } in
     record {

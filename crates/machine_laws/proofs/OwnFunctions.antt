@@ -28,7 +28,8 @@ use Rattle.rl_defs.proofs.CodeBlocks.{some_line, inside_below, line_inside, stan
 use Rattle.rl_defs.proofs.CodeSafe.{Safe, safe_at}
 use Rattle.rl_defs.proofs.CodeStands.{function_next, comes_to_code, stands_next, stands_jumped, has_place, place_head, jumps_to}
 use Rattle.rl_defs.proofs.CodeAnswers.{failed_label}
-use Rattle.machine_laws.proofs.OwnEntries.{passes_first, same_list}
+use Rattle.machine_laws.proofs.OwnEntries.{passes_first}
+use Rattle.machine_laws.proofs.Contents.{same_list}
 
 -- the instruction of a stand is the one at its line
 pub instr_here : (d : Domain) (i : Instr) (s : Stand) → StandsAt d i s → instr_at d s.at ≡ Some i
@@ -43,13 +44,7 @@ first_form lines n (line.Function name) before f lt is earlier e =
     let first : n + 1 ≡ f.first = cc in
     (ap (function_at lines) (sym first) ∙ (ap (function_at lines) (add-one n) ∙ (is ∙ e)), omega arith)
 first_form lines n line.Close before f lt is earlier e = absurd (cc)
-first_form lines n (line.Domain name has) before f lt is earlier e = earlier e
-first_form lines n (line.Words k) before f lt is earlier e = earlier e
-first_form lines n (line.Slot name ty) before f lt is earlier e = earlier e
-first_form lines n (line.Import name has) before f lt is earlier e = earlier e
-first_form lines n (line.Native body) before f lt is earlier e = earlier e
-first_form lines n (line.Head label items) before f lt is earlier e = earlier e
-first_form lines n (line.Code i) before f lt is earlier e = earlier e
+first_form lines n other before f lt is earlier e = earlier e
 
 first_line : (lines : Lines) (n : ℕ) (l : Option (Numbered DomainLine)) (f : Function) → slice_get lines n ≡ l → (function_at lines n ≡ Some f → Begins lines f) → function_behind n l (function_at lines n) ≡ Some f → Begins lines f
 first_line lines n None f here earlier e = earlier e

@@ -2,7 +2,7 @@
 use Rattle.std.proofs.Common.{◌≡◌, refl, sym, ◌∙◌, ap, ℕ, zero, suc, ◌+◌, ◌==◌, Bool, true, false, cond, not, ◌&&◌, ◌||◌, List, [], ◌∷◌, map, Option, Some, None, arith, unwrap_or, inl, inr}
 use Rattle.std.specs.Prelude.{if◌then◌else◌, slice_set}
 use Rattle.std.specs.List.{slice_index_or, list_all, filter_map, cons_option}
-use Rattle.std.proofs.lemmas.Bool.{cases_Bool, eqb-true}
+use Rattle.std.proofs.lemmas.Bool.{cases_Bool, eqb-true, not-true, or_parts, eqb-false}
 use Rattle.rl_defs.specs.declared.values.Value.{Value}
 use Rattle.rl_defs.specs.declared.values.Value.TheVariants as value
 use Rattle.rl_defs.specs.declared.code.Register.{Register}
@@ -24,8 +24,8 @@ use Rattle.rl_defs.specs.CodeFits.{Typing, fits_kind, give_up, given_up, all_giv
 use Rattle.rl_defs.specs.Instructions.{Registers, value_in, with_value, given_by, passed_value, result_in}
 use Rattle.rl_defs.proofs.CodeRegisters.{and_left, and_right, Fine, set_fine, is_given, all_given}
 use Rattle.machine_laws.specs.Registers.{own}
-use Rattle.machine_laws.proofs.OwnMarks.{Marked, mark_set, mark_emptied, mark_none, not_true, owned_in, owned_set}
-use Rattle.machine_laws.proofs.OwnHeads.{index_other, different}
+use Rattle.machine_laws.proofs.OwnMarks.{Marked, mark_set, mark_emptied, mark_none, owned_in, owned_set}
+use Rattle.machine_laws.proofs.OwnHeads.{index_other}
 
 -- the objects in these registers, one after the other
 abbrev pub objects_of : Registers → List Register → List ℕ
@@ -55,16 +55,8 @@ result_objects regs (r ∷ rs) =
     result_first (value_in regs r) (objects_in (map (result_in regs) rs)) ∙ ap (cons_option (object_held (value_in regs r))) (result_objects regs rs)
 
 -- registers that a register isn't among don't see it change
-pub or_left : (a b : Bool) → (a || b) ≡ false → a ≡ false
-or_left true b e = e
-or_left false b e = refl
-
-pub or_right : (a b : Bool) → (a || b) ≡ false → b ≡ false
-or_right true b e = cc
-or_right false b e = e
-
 apart_first : (r q : Register) (rs : List Register) → is_among r (q ∷ rs) ≡ false → r.number ≡ q.number → ⊥
-apart_first r q rs e same = different q.number r.number (or_left (q.number == r.number) (is_among r rs) e) (sym same)
+apart_first r q rs e same = eqb-false q.number r.number (or_parts (q.number == r.number) (is_among r rs) e).0 (sym same)
 
 pub other_value : (regs : Registers) (r q : Register) (v : Option Value) → (r.number ≡ q.number → ⊥) → value_in (with_value regs r v) q ≡ value_in regs q
 other_value regs r q v ne = index_other regs r.number q.number v None ne
@@ -76,30 +68,30 @@ others_owning : (kinds : Kinds) (r : Register) (k : RegKind) (rs : List Register
 others_owning kinds r k [] e = refl
 others_owning kinds r k (q ∷ rs) e =
     ap (λ x. cond (is_own x) (q ∷ owning (with_kind kinds r k) rs) (owning (with_kind kinds r k) rs)) (other_kind kinds r q k (apart_first r q rs e))
-    ∙ ap (λ xs. cond (is_own (kind_in kinds q)) (q ∷ xs) xs) (others_owning kinds r k rs (or_right (q.number == r.number) (is_among r rs) e))
+    ∙ ap (λ xs. cond (is_own (kind_in kinds q)) (q ∷ xs) xs) (others_owning kinds r k rs (or_parts (q.number == r.number) (is_among r rs) e).1)
 
 others_given : (kinds : Kinds) (r : Register) (k : RegKind) (rs : List Register) → is_among r rs ≡ false → all_given (with_kind kinds r k) rs ≡ all_given kinds rs
 others_given kinds r k [] e = refl
 others_given kinds r k (q ∷ rs) e =
     ap (λ x. is_given x && all_given (with_kind kinds r k) rs) (other_kind kinds r q k (apart_first r q rs e))
-    ∙ ap (λ b. is_given (kind_in kinds q) && b) (others_given kinds r k rs (or_right (q.number == r.number) (is_among r rs) e))
+    ∙ ap (λ b. is_given (kind_in kinds q) && b) (others_given kinds r k rs (or_parts (q.number == r.number) (is_among r rs) e).1)
 
 others_objects : (regs : Registers) (r : Register) (v : Option Value) (rs : List Register) → is_among r rs ≡ false → objects_of (with_value regs r v) rs ≡ objects_of regs rs
 others_objects regs r v [] e = refl
 others_objects regs r v (q ∷ rs) e =
     ap (λ x. cons_option (object_held x) (objects_of (with_value regs r v) rs)) (other_value regs r q v (apart_first r q rs e))
-    ∙ ap (cons_option (object_held (value_in regs q))) (others_objects regs r v rs (or_right (q.number == r.number) (is_among r rs) e))
+    ∙ ap (cons_option (object_held (value_in regs q))) (others_objects regs r v rs (or_parts (q.number == r.number) (is_among r rs) e).1)
 
 -- a register with an own object is among those that own one, where it is among registers
-owning_rest : (own rest found : Bool) → (cond own (found || rest) rest) ≡ false → rest ≡ false
-owning_rest true rest found e = or_right found rest e
+pub owning_rest : (own rest found : Bool) → (cond own (found || rest) rest) ≡ false → rest ≡ false
+owning_rest true rest found e = (or_parts found rest e).1
 owning_rest false rest found e = e
 
 among_first : (r q : Register) (b : Bool) (xs : List Register) → is_among r (cond b (q ∷ xs) xs) ≡ cond b ((q.number == r.number) || is_among r xs) (is_among r xs)
 among_first r q true xs = refl
 among_first r q false xs = refl
 
-owning_here : (own same rest : Bool) → own ≡ true → same ≡ true → cond own (same || rest) rest ≡ false → ⊥
+pub owning_here : (own same rest : Bool) → own ≡ true → same ≡ true → cond own (same || rest) rest ≡ false → ⊥
 owning_here true true rest a b e = cc
 owning_here false same rest a b e = cc
 owning_here own false rest a b e = cc
@@ -155,7 +147,7 @@ marks_given lent (r ∷ rs) kinds regs each = marks_given lent rs (leave kinds r
 
 -- none of an empty list
 distinct_first : (r : Register) (b : Bool) (xs : List Register) → b ≡ true → are_distinct (cond b (r ∷ xs) xs) ≡ true → (is_among r xs ≡ false) × (are_distinct xs ≡ true)
-distinct_first r true xs e d = (not_true (is_among r xs) (and_left (not (is_among r xs)) (are_distinct xs) d), and_right (not (is_among r xs)) (are_distinct xs) d)
+distinct_first r true xs e d = (not-true (is_among r xs) (and_left (not (is_among r xs)) (are_distinct xs) d), and_right (not (is_among r xs)) (are_distinct xs) d)
 distinct_first r false xs e d = cc
 
 distinct_rest : (r : Register) (b : Bool) (xs : List Register) → are_distinct (cond b (r ∷ xs) xs) ≡ true → are_distinct xs ≡ true
@@ -200,8 +192,8 @@ other_given regs r q (Some (value.Cap x)) ne = refl
 pub others_keep : (rs : List Register) (regs : Registers) (q : Register) → is_among q rs ≡ false → value_in (all_given_up rs regs) q ≡ value_in regs q
 others_keep [] regs q e = refl
 others_keep (r ∷ rs) regs q e =
-    others_keep rs (given_up regs r) q (or_right (r.number == q.number) (is_among q rs) e)
-    ∙ other_given regs r q (value_in regs r) (different r.number q.number (or_left (r.number == q.number) (is_among q rs) e))
+    others_keep rs (given_up regs r) q (or_parts (r.number == q.number) (is_among q rs) e).1
+    ∙ other_given regs r q (value_in regs r) (eqb-false r.number q.number (or_parts (r.number == q.number) (is_among q rs) e).0)
 
 -- an instruction moves no lent object, and none twice
 passed_given : (k : RegKind) → meets Passed k ≡ true → is_given k ≡ true

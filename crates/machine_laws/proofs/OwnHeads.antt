@@ -2,7 +2,8 @@
 use Rattle.std.proofs.Common.{◌≡◌, refl, sym, ◌∙◌, ap, subst, ℕ, zero, suc, ◌+◌, ◌-◌, ◌<◌, ◌==◌, Bool, true, false, not, ◌||◌, List, [], ◌∷◌, length, map, drop, Option, Some, None, slice_get, arith, true≢false, zero-add, inl, inr}
 use Rattle.std.specs.Prelude.{slice_set, if◌then◌else◌}
 use Rattle.std.specs.List.{slice_index_or, list_all}
-use Rattle.std.proofs.lemmas.Bool.{cases_eq, eq-eqb, ne_eqb}
+use Rattle.std.proofs.lemmas.Bool.{cases_eq, ne_eqb, not-true, or_parts, eqb-false}
+use Rattle.std.proofs.lemmas.List.{get_or-set_same, get_or-set_other}
 use Rattle.rl_defs.specs.declared.values.Value.{Value}
 use Rattle.rl_defs.specs.declared.code.Register.{Register}
 use Rattle.rl_defs.specs.declared.code.RegKind.{RegKind}
@@ -24,31 +25,11 @@ use Rattle.rl_defs.proofs.CodeBlocks.{some_line}
 use Rattle.rl_defs.proofs.CodeStands.{keeps_at, kinds_next, stands_behind, has_place, place_head, jumps_to}
 use Rattle.machine_laws.specs.Registers.{own}
 use Rattle.machine_laws.proofs.OwnCounts.{own_kept}
-use Rattle.machine_laws.proofs.OwnMarks.{mark, Marked, mark_none, not_true, spare_in}
+use Rattle.machine_laws.proofs.OwnMarks.{mark, Marked, mark_none, spare_in}
 use Rattle.std.proofs.Math.ListN.{length-set}
 
-pub index_here : {A : Type 0} (xs : List A) (a : ℕ) (x other : A) → a < length xs → slice_index_or (slice_set xs a x) a other ≡ x
-index_here [] a x other lt = absurd (omega arith)
-index_here (y ∷ xs) zero x other lt = refl
-index_here (y ∷ xs) (suc a) x other lt = index_here xs a x other (omega arith)
-
 pub index_other : {A : Type 0} (xs : List A) (a r : ℕ) (x other : A) → (a ≡ r → ⊥) → slice_index_or (slice_set xs a x) r other ≡ slice_index_or xs r other
-index_other [] a r x other ne = refl
-index_other (y ∷ xs) zero zero x other ne = absurd (ne refl)
-index_other (y ∷ xs) zero (suc r) x other ne = refl
-index_other (y ∷ xs) (suc a) zero x other ne = refl
-index_other (y ∷ xs) (suc a) (suc r) x other ne = index_other xs a r x other (λ e. ne (ap suc e))
-
-pub different : (a b : ℕ) → (a == b) ≡ false → a ≡ b → ⊥
-different a b f e = absurd (cc (ap (λ n. n == b) e, eq-eqb b b refl))
-
-or_left : (a b : Bool) → (a || b) ≡ false → a ≡ false
-or_left true b e = e
-or_left false b e = refl
-
-or_right : (a b : Bool) → (a || b) ≡ false → b ≡ false
-or_right true b e = cc
-or_right false b e = e
+index_other xs a r x other ne = get_or-set_other xs a r x other (λ e. ne (sym e))
 
 abbrev all_same : Kinds → List Write → Bool
 all_same kinds ws = list_all (λ w. same_kind w.kind (kind_in kinds w.register)) ws
@@ -59,7 +40,7 @@ registers items = map (λ item. item.register) items
 -- a kind that is put stays as it is where each kind that is put is the register's own
 set_agrees : (kinds base : Kinds) (a r : ℕ) (k : RegKind) → k ≡ slice_index_or kinds a held.Empty → a < length base → slice_index_or base r held.Empty ≡ slice_index_or kinds r held.Empty → slice_index_or (slice_set base a k) r held.Empty ≡ slice_index_or kinds r held.Empty
 set_agrees kinds base a r k is lt e = elim (cases_eq a r) [
-  | inl same ↦ ap (λ n. slice_index_or (slice_set base a k) n held.Empty) (sym same) ∙ (index_here base a k held.Empty lt ∙ (is ∙ ap (λ n. slice_index_or kinds n held.Empty) same))
+  | inl same ↦ ap (λ n. slice_index_or (slice_set base a k) n held.Empty) (sym same) ∙ (get_or-set_same base a k held.Empty lt ∙ (is ∙ ap (λ n. slice_index_or kinds n held.Empty) same))
   | inr ne ↦ index_other base a r k held.Empty ne ∙ e
 ]
 
@@ -82,21 +63,21 @@ put_listed kinds tables (x ∷ items) base r wide same is =
     elim (cases_eq x.register.number r) [
       | inl e ↦
           put_agrees kinds (listed tables items) next r width rest
-          (ap (λ n. slice_index_or next n held.Empty) (sym e) ∙ (index_here base x.register.number k held.Empty (omega arith) ∙ (here ∙ ap (λ n. slice_index_or kinds n held.Empty) e)))
+          (ap (λ n. slice_index_or next n held.Empty) (sym e) ∙ (get_or-set_same base x.register.number k held.Empty (omega arith) ∙ (here ∙ ap (λ n. slice_index_or kinds n held.Empty) e)))
       | inr ne ↦
           put_listed kinds tables items next r width rest (sym (ap (λ b. b || is_listed r (registers items)) (ne_eqb x.register.number r ne)) ∙ is)
     ]
 
 pub none_own : (kinds : Kinds) (r : ℕ) → owns_nothing kinds ≡ true → is_own (slice_index_or kinds r held.Empty) ≡ false
 none_own [] r o = refl
-none_own (k ∷ kinds) zero o = not_true (is_own k) (and_left (not (is_own k)) (owns_nothing kinds) o)
+none_own (k ∷ kinds) zero o = not-true (is_own k) (and_left (not (is_own k)) (owns_nothing kinds) o)
 none_own (k ∷ kinds) (suc r) o = none_own kinds r (and_right (not (is_own k)) (owns_nothing kinds) o)
 
 without_at : (rs : List Register) (kinds : Kinds) (r : ℕ) → is_listed r rs ≡ false → slice_index_or (without rs kinds) r held.Empty ≡ slice_index_or kinds r held.Empty
 without_at [] kinds r is = refl
 without_at (q ∷ rs) kinds r is =
-    without_at rs (with_kind kinds q held.Empty) r (or_right (q.number == r) (is_listed r rs) is)
-    ∙ index_other kinds q.number r held.Empty held.Empty (different q.number r (or_left (q.number == r) (is_listed r rs) is))
+    without_at rs (with_kind kinds q held.Empty) r (or_parts (q.number == r) (is_listed r rs) is).1
+    ∙ index_other kinds q.number r held.Empty held.Empty (eqb-false q.number r (or_parts (q.number == r) (is_listed r rs) is).0)
 
 -- what a head makes of registers
 pub record Onward (lent : List ℕ) (d : Domain) (regs : Registers) (t : Stand) : Type 0 where

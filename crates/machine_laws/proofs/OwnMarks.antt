@@ -2,6 +2,7 @@
 use Rattle.std.proofs.Common.{◌≡◌, refl, sym, ◌∙◌, ap, ℕ, zero, suc, ◌+◌, Bool, true, false, not, List, [], ◌∷◌, Option, Some, None, arith}
 use Rattle.std.specs.Prelude.{slice_set}
 use Rattle.std.specs.List.{slice_index_or}
+use Rattle.std.proofs.lemmas.Bool.{not-true, not_from_false}
 use Rattle.rl_defs.specs.declared.values.Value.{Value}
 use Rattle.rl_defs.specs.declared.values.Value.TheVariants as value
 use Rattle.rl_defs.specs.declared.code.Register.{Register}
@@ -9,10 +10,9 @@ use Rattle.rl_defs.specs.declared.code.RegKind.{RegKind}
 use Rattle.rl_defs.specs.declared.code.RegKind.TheVariants as held
 use Rattle.rl_defs.specs.Loans.{count}
 use Rattle.rl_defs.specs.Crossing.{has}
-use Rattle.rl_defs.specs.CodeKinds.{Kinds, kind_in, with_kind, is_own}
+use Rattle.rl_defs.specs.CodeKinds.{Kinds, kind_in, is_own}
 use Rattle.rl_defs.specs.CodeFits.{Typing, fits_kind, Fits}
 use Rattle.rl_defs.specs.Instructions.{Registers, value_in, with_value}
-use Rattle.rl_defs.proofs.CodeRegisters.{Fine, set_fine}
 use Rattle.machine_laws.specs.Registers.{own, Parted}
 use Rattle.machine_laws.proofs.OwnCounts.{weight, weight_of, own_set}
 
@@ -25,15 +25,8 @@ mark lent k v = true
 abbrev pub Marked : List ℕ → Kinds → Registers → Type 0
 Marked lent kinds regs = (r : ℕ) → mark lent (slice_index_or kinds r held.Empty) (slice_index_or regs r None) ≡ true
 
-is_false : (b : Bool) → b ≡ false → not b ≡ true
-is_false b e = ap not e
-
-pub not_true : (b : Bool) → not b ≡ true → b ≡ false
-not_true true e = cc
-not_true false e = refl
-
 mark_from : (lent : List ℕ) (k : RegKind) (v : Option Value) → ((ty o : ℕ) → k ≡ held.Own ty → v ≡ Some (value.Obj o) → has lent o ≡ false) → ((ty o : ℕ) → k ≡ held.Lent ty → v ≡ Some (value.Obj o) → has lent o ≡ true) → mark lent k v ≡ true
-mark_from lent (held.Own s) (Some (value.Obj o)) mine lents = is_false (has lent o) (mine s o refl refl)
+mark_from lent (held.Own s) (Some (value.Obj o)) mine lents = not_from_false (has lent o) (mine s o refl refl)
 mark_from lent (held.Lent s) (Some (value.Obj o)) mine lents = lents s o refl refl
 mark_from lent k v mine lents = refl
 
@@ -41,7 +34,7 @@ pub marked_of : (lent : List ℕ) (kinds : Kinds) (regs : Registers) → Parted 
 marked_of lent kinds regs parted r = mark_from lent (slice_index_or kinds r held.Empty) (slice_index_or regs r None) (λ ty o. parted.own r ty o) (λ ty o. parted.lent r ty o)
 
 own_mark : (lent : List ℕ) (k : RegKind) (v : Option Value) (ty o : ℕ) → mark lent k v ≡ true → k ≡ held.Own ty → v ≡ Some (value.Obj o) → has lent o ≡ false
-own_mark lent k v ty o m a b = not_true (has lent o) (sym (ap (λ x. mark lent x (Some (value.Obj o))) a) ∙ (sym (ap (mark lent k) b) ∙ m))
+own_mark lent k v ty o m a b = not-true (has lent o) (sym (ap (λ x. mark lent x (Some (value.Obj o))) a) ∙ (sym (ap (mark lent k) b) ∙ m))
 
 lent_mark : (lent : List ℕ) (k : RegKind) (v : Option Value) (ty o : ℕ) → mark lent k v ≡ true → k ≡ held.Lent ty → v ≡ Some (value.Obj o) → has lent o ≡ true
 lent_mark lent k v ty o m a b = sym (ap (λ x. mark lent x (Some (value.Obj o))) a) ∙ (sym (ap (mark lent k) b) ∙ m)
@@ -74,17 +67,6 @@ mark_emptied lent (x ∷ kinds) (y ∷ regs) zero each (suc r) = each (suc r)
 mark_emptied lent (x ∷ kinds) (y ∷ regs) (suc a) each zero = each zero
 mark_emptied lent (x ∷ kinds) (y ∷ regs) (suc a) each (suc r) = mark_emptied lent kinds regs a (λ q. each (suc q)) r
 
--- registers of their kinds, and lent as these say
-pub record Sorted (types : Typing) (lent : List ℕ) (kinds : Kinds) (regs : Registers) : Type 0 where
-  pub fine : Fine types kinds regs
-  pub marked : Marked lent kinds regs
-
-pub set_sorted : (types : Typing) (lent : List ℕ) (kinds : Kinds) (regs : Registers) (a : Register) (k : RegKind) (v : Option Value) → Sorted types lent kinds regs → fits_kind types k v ≡ true → mark lent k v ≡ true → Sorted types lent (with_kind kinds a k) (with_value regs a v)
-set_sorted types lent kinds regs a k v sorted f m = record {
-  fine = set_fine types kinds regs a k v sorted.fine f;
-  marked = mark_set lent kinds regs a.number k v sorted.marked m;
-}
-
 -- what is in a register that isn't known to hold an own object isn't own
 lent_weight : (p o : ℕ) (b : Bool) → b ≡ true → weight_of p o b ≡ 0
 lent_weight p o b e = ap (weight_of p o) e
@@ -103,7 +85,7 @@ pub record Owned (lent : List ℕ) (v : Option Value) : Type 0 where
   pub unlent : has lent object ≡ false
 
 owned_value : (types : Typing) (lent : List ℕ) (k : RegKind) (v : Option Value) → fits_kind types k v ≡ true → mark lent k v ≡ true → is_own k ≡ true → Owned lent v
-owned_value types lent (held.Own s) (Some (value.Obj o)) f m own = record { object = o; is = refl; unlent = not_true (has lent o) m }
+owned_value types lent (held.Own s) (Some (value.Obj o)) f m own = record { object = o; is = refl; unlent = not-true (has lent o) m }
 owned_value types lent k v f m own = absurd (cc)
 
 pub spare_in : (types : Typing) (lent : List ℕ) (kinds : Kinds) (regs : Registers) (p r : ℕ) → Fits types kinds regs → Marked lent kinds regs → is_own (slice_index_or kinds r held.Empty) ≡ false → weight lent p (slice_index_or regs r None) ≡ 0

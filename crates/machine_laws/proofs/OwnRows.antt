@@ -9,11 +9,11 @@ use Rattle.rl_defs.specs.Loans.{count}
 use Rattle.machine_laws.specs.Ledger.{same_owner, LedgerFrame, Ledger, at, alive, loans}
 use Rattle.machine_laws.specs.LedgerRows.{Runs, Exchanged, remove}
 use Rattle.machine_laws.specs.LedgerSound.{slots_held, is_of, Covered, Owned}
-use Rattle.machine_laws.proofs.Sums.{at_same, at_other}
 use Rattle.machine_laws.proofs.Counts.{one_here, none_there, has_cond}
 use Rattle.machine_laws.proofs.Owners.{is_of_le, top_own, top_held, top_root, unlent}
 use Rattle.machine_laws.proofs.Sweeping.{BeforeSweepIn, BeforeSweep, covered_weaker}
 use Rattle.machine_laws.proofs.OneStack.{at_each, lent_loans, stack_changed}
+use Rattle.machine_laws.proofs.Rows.{at_same, at_other}
 
 -- a sound state before any change
 pub unswept : (L : Load) (s : Ledger) → Owned L s → BeforeSweep L s

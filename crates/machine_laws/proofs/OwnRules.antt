@@ -1,7 +1,7 @@
 -- What a line of domain code keeps of the rules on own objects.
 use Rattle.std.proofs.Common.{◌≡◌, refl, ℕ, Bool, true, false, not, ◌&&◌, ◌||◌, ◌==◌, List, [], ◌∷◌, Some, slice_get}
 use Rattle.std.specs.List.{list_any}
-use Rattle.std.proofs.lemmas.Bool.{eq-eqb}
+use Rattle.std.proofs.lemmas.Bool.{eq-eqb, or_right}
 use Rattle.rl_defs.specs.declared.code.DomainLine.{DomainLine}
 use Rattle.rl_defs.specs.DomainValue.{Domain}
 use Rattle.rl_defs.specs.CodeKinds.{kinds_at}
@@ -20,14 +20,10 @@ here_kept : (rule : ℕ) (b rest : Bool) → (((not b && (rule == rule)) || rest
 here_kept rule true rest none = refl
 here_kept rule false rest none = absurd (none (rw (eq-eqb rule rule refl) refl))
 
-or_more : (a b : Bool) → b ≡ true → (a || b) ≡ true
-or_more true b e = refl
-or_more false b e = e
-
 all_kept : (ss : List Sentence) → ((rule : ℕ) → list_any (broken rule) ss ≡ true → ⊥) → AllKept ss
 all_kept [] none = tt
 all_kept (s ∷ ss) none =
-    (here_kept s.0 s.1 (list_any (broken s.0) ss) (none s.0), all_kept ss (λ rule e. none rule (or_more (broken rule s) (list_any (broken rule) ss) e)))
+    (here_kept s.0 s.1 (list_any (broken s.0) ss) (none s.0), all_kept ss (λ rule e. none rule (or_right (broken rule s) (list_any (broken rule) ss) e)))
 
 pub record KeepsOwn (d : Domain) (n : ℕ) (form : DomainLine) : Type 0 where
   pub spares : spares_objects (kinds_at d n) form ≡ true

@@ -2,7 +2,7 @@
 use Rattle.std.proofs.Common.{◌≡◌, refl, sym, ◌∙◌, ap, subst, ℕ, zero, suc, ◌==◌, ◌⊎◌, Bool, true, false, not, ◌&&◌, ◌||◌, List, [], ◌∷◌, ◌++◌, length, Option, Some, None, slice_get, true≢false, inl, inr}
 use Rattle.std.specs.Option.{option_to_list}
 use Rattle.std.specs.List.{list_all, list_any}
-use Rattle.std.proofs.lemmas.Bool.{cases_Bool, cases_lt, eq-eqb}
+use Rattle.std.proofs.lemmas.Bool.{cases_Bool, cases_lt, eq-eqb, not-true, or_parts, or_right}
 use Rattle.rl_defs.specs.declared.bundle.Numbered.{Numbered}
 use Rattle.rl_defs.specs.declared.load.Load.{Load}
 use Rattle.rl_defs.specs.declared.idl.Idl.{Idl}
@@ -29,8 +29,6 @@ use Rattle.rl_defs.specs.CodeNames.{cells_of, flat_of, methods_of as rows_in, ro
 use Rattle.rl_defs.specs.CodeKinds.{hung_in}
 use Rattle.rl_defs.proofs.CodeRegisters.{and_left, and_right}
 use Rattle.machine_laws.specs.Registers.{HasTables, is_lent_kind}
-use Rattle.machine_laws.proofs.OwnGiving.{or_left, or_right}
-use Rattle.machine_laws.proofs.OwnMarks.{not_true}
 
 -- a test that no line passes
 no_line : (lines : Lines) (test : IdlLine → Bool) → ((k : ℕ) (x : Numbered IdlLine) → slice_get lines k ≡ Some x → test x.form ≡ true → ⊥) → list_any (λ x. test x.form) lines ≡ false
@@ -51,14 +49,14 @@ abbrev lends : List TypeText → Bool
 lends types = list_any (λ ty. is_lent ty.base) types
 
 fields_form : (n : ℕ) (line : IdlLine) (more : List FieldText) → has_bad_type line ≡ false → lends (types_of more) ≡ false → lends (types_of (field_before n line more)) ≡ false
-fields_form n (form.Field name ty) more good rest = rw (or_right (is_refused ty) (is_lent ty.base) good) rest
+fields_form n (form.Field name ty) more good rest = rw (or_parts (is_refused ty) (is_lent ty.base) good).1 rest
 fields_form n line more good rest = refl
 
 fields_lend : (lines : Lines) → list_any (λ x. has_bad_type x.form) lines ≡ false → lends (types_of (fields_of lines)) ≡ false
 fields_lend [] good = refl
 fields_lend (x ∷ lines) good =
-    fields_form x.line x.form (fields_of lines) (or_left (has_bad_type x.form) (list_any (λ y. has_bad_type y.form) lines) good)
-    (fields_lend lines (or_right (has_bad_type x.form) (list_any (λ y. has_bad_type y.form) lines) good))
+    fields_form x.line x.form (fields_of lines) (or_parts (has_bad_type x.form) (list_any (λ y. has_bad_type y.form) lines) good).0
+    (fields_lend lines (or_parts (has_bad_type x.form) (list_any (λ y. has_bad_type y.form) lines) good).1)
 
 structs_form : (n : ℕ) (line : IdlLine) (fields : List FieldText) (more : List StructText) (s : ℕ) → lends (types_of fields) ≡ false → ((t : ℕ) → lends (field_types (slice_get more t)) ≡ false) → lends (field_types (slice_get (struct_before n line fields more) s)) ≡ false
 structs_form n (form.Struct name) fields more zero here rest = here
@@ -68,7 +66,7 @@ structs_form n line fields more s here rest = rest s
 structs_lend : (lines : Lines) → list_any (λ x. has_bad_type x.form) lines ≡ false → (s : ℕ) → lends (types_at lines s) ≡ false
 structs_lend [] good s = refl
 structs_lend (x ∷ lines) good s =
-    let rest = or_right (has_bad_type x.form) (list_any (λ y. has_bad_type y.form) lines) good in
+    let rest = (or_parts (has_bad_type x.form) (list_any (λ y. has_bad_type y.form) lines) good).1 in
     structs_form x.line x.form (fields_of lines) (structs_of lines) s (fields_lend lines rest) (structs_lend lines rest)
 
 -- kinds that pass a test each
@@ -97,14 +95,14 @@ plain_kinds lines types kinds good plain (Plain ty rest more t none f k) =
     let both : lends (ty ∷ rest) ≡ false = sym (ap lends t) ∙ plain in
     ap (list_all is_plain) k
     ∙ all_append is_plain (copies (times_of ty.wraps) (option_to_list (kind_held lines ty))) more
-    (all_copies is_plain (times_of ty.wraps) (option_to_list (kind_held lines ty)) (base_plain lines ty.base (is_refused ty) (or_left (is_lent ty.base) (lends rest) both)))
-    (plain_kinds lines rest more good (or_right (is_lent ty.base) (lends rest) both) f)
+    (all_copies is_plain (times_of ty.wraps) (option_to_list (kind_held lines ty)) (base_plain lines ty.base (is_refused ty) (or_parts (is_lent ty.base) (lends rest) both).0))
+    (plain_kinds lines rest more good (or_parts (is_lent ty.base) (lends rest) both).1 f)
 plain_kinds lines types kinds good plain (Fields ty rest s inner more t held g f k) =
     let both : lends (ty ∷ rest) ≡ false = sym (ap lends t) ∙ plain in
     ap (list_all is_plain) k
     ∙ all_append is_plain (copies (times_of ty.wraps) inner) more
     (all_copies is_plain (times_of ty.wraps) inner (plain_kinds lines (types_at lines s) inner good (structs_lend lines good s) g))
-    (plain_kinds lines rest more good (or_right (is_lent ty.base) (lends rest) both) f)
+    (plain_kinds lines rest more good (or_parts (is_lent ty.base) (lends rest) both).1 f)
 
 -- the results of methods
 abbrev lends_form : IdlLine → Bool
@@ -129,8 +127,8 @@ methods_form n line marked more quiet rest = refl
 methods_quiet : (lines : Lines) (marked : Bool) → list_any (λ x. lends_form x.form) lines ≡ false → list_all is_quiet (methods_of lines marked) ≡ true
 methods_quiet [] marked quiet = refl
 methods_quiet (x ∷ lines) marked quiet =
-    methods_form x.line x.form marked (methods_of lines) (or_left (lends_form x.form) (list_any (λ y. lends_form y.form) lines) quiet)
-    (λ b. methods_quiet lines b (or_right (lends_form x.form) (list_any (λ y. lends_form y.form) lines) quiet))
+    methods_form x.line x.form marked (methods_of lines) (or_parts (lends_form x.form) (list_any (λ y. lends_form y.form) lines) quiet).0
+    (λ b. methods_quiet lines b (or_parts (lends_form x.form) (list_any (λ y. lends_form y.form) lines) quiet).1)
 
 traits_form : (n : ℕ) (line : IdlLine) (methods : List MethodText) (more : List TraitText) → list_all is_quiet methods ≡ true → list_all (λ t. list_all is_quiet t.methods) more ≡ true → list_all (λ t. list_all is_quiet t.methods) (trait_before n line methods more) ≡ true
 traits_form n (form.Trait name) methods more here rest = rw here rest
@@ -139,14 +137,14 @@ traits_form n line methods more here rest = rest
 traits_quiet : (lines : Lines) → list_any (λ x. lends_form x.form) lines ≡ false → list_all (λ t. list_all is_quiet t.methods) (traits_of lines) ≡ true
 traits_quiet [] quiet = refl
 traits_quiet (x ∷ lines) quiet =
-    let rest = or_right (lends_form x.form) (list_any (λ y. lends_form y.form) lines) quiet in
+    let rest = (or_parts (lends_form x.form) (list_any (λ y. lends_form y.form) lines) quiet).1 in
     traits_form x.line x.form (methods_of lines false) (traits_of lines) (methods_quiet lines false rest) (traits_quiet lines rest)
 
 method_rows : (lines : Lines) (ms : List MethodText) (rows : List MethodRow) (k : ℕ) → list_any (λ x. has_bad_type x.form) lines ≡ false → list_all is_quiet ms ≡ true → AreMethodRows lines ms rows → list_all is_plain (results_of (slice_get rows k)) ≡ true
 method_rows lines ms [] k good quiet rows = refl
 method_rows lines [] (r ∷ rs) k good quiet rows = absurd rows
 method_rows lines (m ∷ ms) (r ∷ rs) zero good quiet rows =
-    plain_kinds lines (result_types m.result) r.results good (not_true (lends (result_types m.result)) (and_left (is_quiet m) (list_all is_quiet ms) quiet)) rows.0.results
+    plain_kinds lines (result_types m.result) r.results good (not-true (lends (result_types m.result)) (and_left (is_quiet m) (list_all is_quiet ms) quiet)) rows.0.results
 method_rows lines (m ∷ ms) (r ∷ rs) (suc k) good quiet rows = method_rows lines ms rs k good (and_right (is_quiet m) (list_all is_quiet ms) quiet) rows.1
 
 trait_rows : (lines : Lines) (ts : List TraitText) (rows : List TraitRow) (t k : ℕ) → list_any (λ x. has_bad_type x.form) lines ≡ false → list_all (λ x. list_all is_quiet x.methods) ts ≡ true → AreTraitRows lines ts rows → list_all is_plain (results_of (slice_get (rows_of (slice_get rows t)) k)) ≡ true
@@ -186,10 +184,7 @@ any_copies test (suc n) xs a = elim (any_append test xs (copies n xs) a) [
 any_at : (test : Kind → Bool) (xs : List Kind) (i : ℕ) (x : Kind) → slice_get xs i ≡ Some x → test x ≡ true → list_any test xs ≡ true
 any_at test [] i x here is = absurd (cc)
 any_at test (y ∷ xs) zero x here is = let same : y ≡ x = cc in ap (λ b. b || list_any test xs) (ap test same ∙ is)
-any_at test (y ∷ xs) (suc i) x here is = more (test y) (list_any test xs) (any_at test xs i x here is) where
-  more : (a b : Bool) → b ≡ true → (a || b) ≡ true
-  more true b e = refl
-  more false b e = e
+any_at test (y ∷ xs) (suc i) x here is = or_right (test y) (list_any test xs) (any_at test xs i x here is)
 
 -- a type among these is an RRef, or holds a struct that holds one
 pub data TypesHold (lines : Lines) (types : List TypeText) : Type 0 where

@@ -1,7 +1,8 @@
 -- Register work leaves a frame its own objects.
-use Rattle.std.proofs.Common.{◌≡◌, refl, sym, ◌∙◌, ap, subst, ℕ, zero, suc, ◌+◌, ◌<◌, ◌≤◌, ◌==◌, Bool, true, false, ◌&&◌, List, Option, Some, None, slice_get, arith, inl, inr}
+use Rattle.std.proofs.Common.{◌≡◌, refl, sym, ◌∙◌, ap, subst, ℕ, zero, suc, ◌+◌, ◌≤◌, ◌==◌, Bool, true, false, ◌&&◌, List, Option, Some, None, slice_get, arith, inl, inr}
 use Rattle.std.specs.Prelude.{if◌then◌else◌}
 use Rattle.std.specs.List.{list_all}
+use Rattle.std.proofs.lemmas.Bool.{not-true}
 use Rattle.rl_defs.specs.declared.values.Value.{Value}
 use Rattle.rl_defs.specs.declared.values.Value.TheVariants as value
 use Rattle.rl_defs.specs.declared.values.Cause.{Cause}
@@ -28,7 +29,7 @@ use Rattle.rl_defs.proofs.CodeStands.{keeps_at, comes_to_code, stands_next, stan
 use Rattle.rl_defs.proofs.CodeWidths.{length-kinds_at}
 use Rattle.machine_laws.specs.Registers.{own, Parted}
 use Rattle.machine_laws.proofs.OwnCounts.{weight}
-use Rattle.machine_laws.proofs.OwnMarks.{mark, Marked, mark_set, not_true, marked_of, parted_of, spare_in, spare_set, owned_in, owned_set, owned_weight}
+use Rattle.machine_laws.proofs.OwnMarks.{mark, Marked, mark_set, marked_of, parted_of, spare_in, spare_set, owned_in, owned_set, owned_weight}
 use Rattle.machine_laws.proofs.OwnRules.{keeps_own}
 use Rattle.machine_laws.proofs.OwnHeads.{heads_own, jumped_own, next_own}
 
@@ -46,7 +47,7 @@ Leaves lent d kinds i regs Stuck = Unit {0}
 put_leaves : (types : Typing) (lent : List ℕ) (kinds : Kinds) (regs : Registers) (a : Register) (k : RegKind) (v : Option Value) → Fits types kinds regs → Marked lent kinds regs → (spares kinds a && true) ≡ true → mark lent k v ≡ true → ((p : ℕ) → weight lent p v ≡ 0) → Marked lent (with_kind kinds a k) (with_value regs a v) × Same lent regs (with_value regs a v)
 put_leaves types lent kinds regs a k v fit marked spared m none = (
   mark_set lent kinds regs a.number k v marked m,
-  λ p. omega (arith, spare_set types lent kinds regs p a v fit marked (not_true (is_own (kind_in kinds a)) (and_left (spares kinds a) true spared)), none p),
+  λ p. omega (arith, spare_set types lent kinds regs p a v fit marked (not-true (is_own (kind_in kinds a)) (and_left (spares kinds a) true spared)), none p),
 )
 
 number_leaves : (types : Typing) (lent : List ℕ) (d : Domain) (kinds : Kinds) (i : Instr) (regs : Registers) (a : Register) (c : Cause) (n : Option ℕ) → Fits types kinds regs → Marked lent kinds regs → (spares kinds a && true) ≡ true → after d kinds i ≡ with_kind kinds a held.Num → Leaves lent d kinds i regs (number_or_trap regs a c n)
@@ -85,7 +86,7 @@ move_leaves types lent kinds regs a b fine marked m spared =
     let fit : Fits types emptied given = (set_fine types kinds regs b held.Empty None fine refl).fits in
     let marks : Marked lent emptied given = mark_set lent kinds regs b.number held.Empty None marked refl in
     let o = owned_in types lent kinds regs b.number fine.fits marked (owned_own (kind_in kinds b) m) in
-    let spare : is_own (kind_in emptied a) ≡ false = ap (λ k. is_own (kind_in k a)) (sym is) ∙ not_true (is_own (kind_in (leave kinds b) a)) (and_left (spares (leave kinds b) a) true spared) in (
+    let spare : is_own (kind_in emptied a) ≡ false = ap (λ k. is_own (kind_in k a)) (sym is) ∙ not-true (is_own (kind_in (leave kinds b) a)) (and_left (spares (leave kinds b) a) true spared) in (
       subst (λ k. Marked lent (with_kind k a (kind_in kinds b)) (with_value given a (value_in regs b))) (sym is) (mark_set lent emptied given a.number (kind_in kinds b) (value_in regs b) marks (marked b.number)),
       λ p. omega (arith, owned_set types lent kinds regs p b None fine.fits marked o, spare_set types lent emptied given p a (value_in regs b) fit marks spare, owned_weight lent p (value_in regs b) o),
     )
@@ -203,11 +204,3 @@ settles_own d types lent sight live (suc f) s keeps sees stand marked =
 pub settle_keeps : (d : Domain) (types : Typing) (lent : List ℕ) (sight : Sight) (live fuel : ℕ) (s : Stand) (act : Action) (rest : ℕ) (stand : Stand) → KeepsRules d → FitsSight types d sight → FitsStand types d s → Parted lent (kinds_at d s.at) s.regs → settle d sight live fuel s ≡ Before act rest stand → SettlesOwn types lent d sight live fuel s.regs act rest stand
 settle_keeps d types lent sight live fuel s act rest stand keeps sees fits parted is =
     subst (EndsOwn types lent d sight live fuel s.regs) is (settles_own d types lent sight live fuel s keeps sees fits (marked_of lent (kinds_at d s.at) s.regs parted))
-
--- with fuel left, the instruction there would act so
-acts_with : (d : Domain) (sight : Sight) (live rest : ℕ) (stand : Stand) (act : Action) → 0 < rest → Acts d sight live rest stand act → work d sight live stand ≡ Would act
-acts_with d sight live rest stand act some (inl a) = absurd (omega (arith, a.0))
-acts_with d sight live rest stand act some (inr is) = is
-
-pub settled_acts : (types : Typing) (lent : List ℕ) (d : Domain) (sight : Sight) (live fuel : ℕ) (regs : Registers) (act : Action) (rest : ℕ) (stand : Stand) → SettlesOwn types lent d sight live fuel regs act rest stand → 0 < rest → work d sight live stand ≡ Would act
-settled_acts types lent d sight live fuel regs act rest stand settled some = acts_with d sight live rest stand act some settled.acts

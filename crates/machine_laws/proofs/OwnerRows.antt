@@ -12,11 +12,11 @@ use Rattle.rl_defs.specs.Machine.History.{objects_in, sum_to}
 use Rattle.machine_laws.specs.Ledger.{LedgerFrame, Ledger, at, alive}
 use Rattle.machine_laws.specs.LedgerRows.{Exchanged, Row}
 use Rattle.machine_laws.specs.LedgerSound.{in_slots, own_in, held_in, is_of, Owned, Grounded, Placed}
-use Rattle.machine_laws.proofs.Sums.{at_same, at_other}
 use Rattle.machine_laws.proofs.Owners.{is_of_root}
 use Rattle.machine_laws.proofs.Sweeping.{BeforeSweepIn, BeforeSweep, covered_weaker}
 use Rattle.machine_laws.proofs.OwnRows.{unswept, ending, new_row, drop_row, unhang_row, even_row, refuse_row, hang_row}
 use Rattle.machine_laws.proofs.PassRows.{slot_row, unwound_row, again_row, ret_row, call_row}
+use Rattle.machine_laws.proofs.Rows.{at_same, at_other}
 
 -- no frame is of an instance that was not opened
 pub none_unopened : (L : Load) (loads : ℕ → ℕ) (ni nc t i o : ℕ) (fs : List LedgerFrame) → Grounded L loads ni nc t fs → ni ≤ i → own_in (owner.Instance i) o fs ≡ 0

@@ -21,9 +21,6 @@ pub same_self : (w : Owner) → same_owner w w ≡ true
 same_self (owner.Client a) = eq-eqb a a refl
 same_self (owner.Instance a) = eq-eqb a a refl
 
-pub root_is : (w v : Owner) → Some (Root w) ≡ Some (Root v) → w ≡ v
-root_is w v e = cc
-
 -- a holder of one object is its owner
 pub is_of_root : (w : Owner) (o : Option Placement) → 0 < cond (is_of w o) 1 0 → o ≡ Some (Root w)
 is_of_root w None pos = absurd (omega arith)

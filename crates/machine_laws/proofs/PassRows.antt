@@ -11,12 +11,12 @@ use Rattle.rl_defs.specs.Crossing.{moved_of, lent_of}
 use Rattle.machine_laws.specs.Ledger.{same_owner, LedgerFrame, Ledger, at, alive, loans}
 use Rattle.machine_laws.specs.LedgerRows.{Runs, IsDead, Exchanged, give, callee, CallRow}
 use Rattle.machine_laws.specs.LedgerSound.{in_slots, own_in, slots_held, is_of, Covered, Owned}
-use Rattle.machine_laws.proofs.Sums.{at_same, at_other}
 use Rattle.machine_laws.proofs.Counts.{has_cond}
 use Rattle.machine_laws.proofs.Owners.{same_is, same_self, top_root, unlent}
 use Rattle.machine_laws.proofs.Sweeping.{BeforeSweepIn, covered_weaker}
 use Rattle.machine_laws.proofs.OneStack.{lent_loans, stack_changed}
 use Rattle.machine_laws.proofs.OwnRows.{unswept, reowned, at_most_once}
+use Rattle.machine_laws.proofs.Rows.{at_same, at_other}
 
 abbrev pub one_of : ℕ → Option ℕ → ℕ
 one_of q None = 0

@@ -1,11 +1,12 @@
 -- The numbers up to a bound that pass a test.
-use Rattle.std.proofs.Common.{◌≡◌, ℕ, zero, suc, ◌+◌, ◌<◌, ◌≤◌, ◌==◌, Bool, true, false, cond, ◌||◌, List, [], ◌∷◌, ◌++◌, refl, sym, ◌∙◌, arith, inl, inr}
+use Rattle.std.proofs.Common.{◌≡◌, ℕ, zero, suc, ◌<◌, ◌≤◌, ◌==◌, Bool, true, false, cond, ◌||◌, List, [], ◌∷◌, ◌++◌, refl, sym, ◌∙◌, arith, inl, inr}
 use Rattle.std.proofs.lemmas.Bool.{cases_eq, cases_Bool, eq-eqb, ne_eqb, both_ways, cases_lt}
 use Rattle.std.proofs.Math.Bool.{or-false}
 use Rattle.rl_defs.specs.Loans.{count}
 use Rattle.rl_defs.specs.Crossing.{has}
 use Rattle.rl_defs.specs.Machine.Caused.{passing}
-use Rattle.machine_laws.proofs.Counts.{has_none}
+use Rattle.machine_laws.proofs.Counts.{none_counted}
+use Rattle.machine_laws.proofs.Counting.{count_append}
 
 pub passing_same : (f g : ℕ → Bool) (n : ℕ) → ((o : ℕ) → 0 < o → o ≤ n → f o ≡ g o) → passing f n ≡ passing g n
 passing_same f g zero same = refl
@@ -55,10 +56,6 @@ passing_only f n o is = elim (cases_eq o 0) [
   ]
 ]
 
-pub count_append : (o : ℕ) (xs ys : List ℕ) → count o (xs ++ ys) ≡ count o xs + count o ys
-count_append o [] ys = omega arith
-count_append o (x ∷ xs) ys = let r = count_append o xs ys in omega arith
-
 pub passing_once : (f : ℕ → Bool) (n o : ℕ) → count o (passing f n) ≤ 1
 passing_once f zero o = omega arith
 passing_once f (suc n) o =
@@ -67,7 +64,7 @@ passing_once f (suc n) o =
     elim (cases_Bool (f (suc n))) [
       | inl e ↦ rw e (elim (cases_eq (suc n) o) [
         | inl is ↦ (
-            let none = has_none o (passing f n) (has_passing_above f n o (omega arith)) in
+            let none = none_counted (passing f n) o (has_passing_above f n o (omega arith)) in
             let split' = count_append o (passing f n) (suc n ∷ []) in
             rw (split', eq-eqb (suc n) o is) (omega arith))
         | inr ne ↦ (let split' = count_append o (passing f n) (suc n ∷ []) in rw (split', ne_eqb (suc n) o ne) (omega arith))

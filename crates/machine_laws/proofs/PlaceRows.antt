@@ -1,6 +1,6 @@
 -- Each row keeps frames and owners in place.
-use Rattle.std.proofs.Common.{◌≡◌, ℕ, zero, suc, ◌<◌, ◌≤◌, true, false, ◌⊎◌, List, [], ◌∷◌, Option, Some, None, refl, ap, sym, ◌∙◌, subst, arith, inl, inr, length}
-use Rattle.std.proofs.lemmas.Bool.{cases_eq, both_ways}
+use Rattle.std.proofs.Common.{◌≡◌, ℕ, zero, suc, ◌<◌, ◌≤◌, true, false, List, [], ◌∷◌, Option, Some, None, refl, ap, sym, ◌∙◌, subst, arith, inl, inr, length}
+use Rattle.std.proofs.lemmas.Bool.{cases_eq, both_ways, cases_lt}
 use Rattle.rl_defs.specs.declared.values.Owner.{Owner}
 use Rattle.rl_defs.specs.declared.values.Owner.TheVariants as owner
 use Rattle.rl_defs.specs.declared.entry.Entry.{Entry}
@@ -14,12 +14,12 @@ use Rattle.rl_defs.specs.Machine.History.{objects_in}
 use Rattle.machine_laws.specs.Ledger.{LedgerFrame, Ledger, at, alive}
 use Rattle.machine_laws.specs.LedgerRows.{Runs, give, remove, callee, Row}
 use Rattle.machine_laws.specs.LedgerSound.{Owned, Grounded, PlacedIn, Placed}
-use Rattle.machine_laws.proofs.Sums.{at_same, at_other}
 use Rattle.machine_laws.proofs.Counts.{has_cond, loses_one}
 use Rattle.machine_laws.proofs.Owners.{top_root}
 use Rattle.machine_laws.proofs.OneStack.{at_each}
 use Rattle.machine_laws.proofs.PassRows.{give_flat}
-use Rattle.machine_laws.proofs.Calls.{grounded_own, grounded_more}
+use Rattle.machine_laws.proofs.Calls.{grounded_own, grounded_more, ground, party_opened}
+use Rattle.machine_laws.proofs.Rows.{at_same, at_other}
 
 -- what a change of the seats keeps
 pub record SeatsPlaced (seat : ℕ → Option Placement) (next_instance next_object : ℕ) : Type 0 where
@@ -29,9 +29,6 @@ pub record SeatsPlaced (seat : ℕ → Option Placement) (next_instance next_obj
   pub some_object : 0 < next_object
 
 module _ (L : Load) (s : Ledger) (own : Owned L s) (p : Placed L s) where
-  pub ground : (t : ℕ) (f : LedgerFrame) (fs : List LedgerFrame) → 0 < t → t ≤ length L.clients → s.stack t ≡ f ∷ fs → Grounded L s.loads s.next_instance s.next_call t (f ∷ fs)
-  ground t f fs pos le is = rw is at (p.grounded t pos le)
-
   stack_changed : (t : ℕ) (new : List LedgerFrame) (seat' : ℕ → Option Placement) (nx nc : ℕ) → s.next_call ≤ nc → Grounded L s.loads s.next_instance nc t new → length new ≤ 32 → SeatsPlaced seat' s.next_instance nx
       → PlacedIn L s.loads s.live (at t new s.stack) seat' s.current s.next_instance nx nc
   stack_changed t new seat' nx nc le g few q = record {
@@ -51,10 +48,6 @@ module _ (L : Load) (s : Ledger) (own : Owned L s) (p : Placed L s) where
 
   seats : SeatsPlaced s.seat s.next_instance s.next_object
   seats = record { owners = p.owners; parents = p.parents; zero_free = p.zero_free; some_object = p.some_object }
-
-  pub party_opened : (t : ℕ) (f : LedgerFrame) (fs : List LedgerFrame) (i : ℕ) → Grounded L s.loads s.next_instance s.next_call t (f ∷ fs) → f.party ≡ owner.Instance i → (0 < i) × (i < s.next_instance)
-  party_opened t f [] i g is = absurd (cc (g.0, is))
-  party_opened t f (h ∷ fs) i g is = let low = g.0.2 in let high = g.0.3 in let e : g.0.0 ≡ i = cc (g.0.1, is) in (omega arith, omega arith)
 
   pub call_below : (t : ℕ) (f : LedgerFrame) (fs : List LedgerFrame) → Grounded L s.loads s.next_instance s.next_call t (f ∷ fs) → f.call < s.next_call
   call_below t f [] g = g.2
@@ -78,7 +71,7 @@ module _ (L : Load) (s : Ledger) (own : Owned L s) (p : Placed L s) where
       → PlacedIn L s.loads s.live (at t (record f { own = mine } ∷ fs) s.stack) seat' s.current s.next_instance nx nc
   top t f fs mine runs seat' nx nc le q = stack_changed t (record f { own = mine } ∷ fs) seat' nx nc le
       (grounded_more L s.loads s.loads s.next_instance s.next_instance s.next_call nc t (λ _ _. refl) (omega arith) le (record f { own = mine } ∷ fs)
-      (grounded_own L s.loads s.next_instance s.next_call t f mine fs (ground t f fs runs.some runs.within runs.stack))) (few t f fs runs) q
+      (grounded_own L s.loads s.next_instance s.next_call t f mine fs (ground L s p t f fs runs.some runs.within runs.stack))) (few t f fs runs) q
 
   -- one object moves to a seat
   seat_at : (o : ℕ) (x : Option Placement) (nx : ℕ) → s.next_object ≤ nx → 0 < o → ((i : ℕ) → x ≡ Some (Root (owner.Instance i)) → (0 < i) × (i < s.next_instance)) → ((q k : ℕ) → x ≡ Some (Hung q k) → (0 < q) × (q < nx)) → SeatsPlaced (at o x s.seat) s.next_instance nx
@@ -92,11 +85,8 @@ module _ (L : Load) (s : Ledger) (own : Owned L s) (p : Placed L s) where
   pub made_before : (o : ℕ) (x : Placement) → s.seat o ≡ Some x → (0 < o) × (o < s.next_object)
   made_before o x is = (
     elim (cases_eq o 0) [ inl e ↦ absurd (let z = p.zero_free in let is' : s.seat 0 ≡ Some x = rw e at is in cc (z, is')) | inr ne ↦ omega arith ],
-    elim (lt_cases o s.next_object) [ inl l ↦ l | inr ge ↦ absurd (let z = own.fresh o ge in cc (z, is)) ],
+    elim (cases_lt o s.next_object) [ inl l ↦ l | inr ge ↦ absurd (let z = own.fresh o ge in cc (z, is)) ],
   )
-    where
-      lt_cases : (a b : ℕ) → (a < b) ⊎ (b ≤ a)
-      lt_cases a b = grind arith
 
   seats_given : (os : List ℕ) (w : Owner) → ((o : ℕ) → 0 < count o os → (0 < o)) → ((i : ℕ) → w ≡ owner.Instance i → (0 < i) × (i < s.next_instance)) → SeatsPlaced (give os w s.seat) s.next_instance s.next_object
   seats_given os w pos to = record {
@@ -147,10 +137,10 @@ module _ (L : Load) (s : Ledger) (own : Owned L s) (p : Placed L s) where
       subst (Placed L) (sym r.4) (stack_changed t (callee n x i m args ∷ record f { own = mine } ∷ fs) (give (moved_of args) (owner.Instance i) s.seat) s.next_object (suc n) (let b = row.number in omega arith) (
         (i, refl, live_some i row.lives, opened, ap s.loads row.into ∙ (p.current_of x).1),
         refl,
-        (let b = row.number in omega (arith, call_below t f fs (ground t f fs runs.some runs.within runs.stack))),
+        (let b = row.number in omega (arith, call_below t f fs (ground L s p t f fs runs.some runs.within runs.stack))),
         omega arith,
         grounded_more L s.loads s.loads s.next_instance s.next_instance s.next_call (suc n) t (λ _ _. refl) (omega arith) (let b = row.number in omega arith) (record f { own = mine } ∷ fs)
-            (grounded_own L s.loads s.next_instance s.next_call t f mine fs (ground t f fs runs.some runs.within runs.stack)),
+            (grounded_own L s.loads s.next_instance s.next_call t f mine fs (ground L s p t f fs runs.some runs.within runs.stack)),
       )
       (let room = row.room in omega arith)
       (seats_given (moved_of args) (owner.Instance i) (λ o c. (own_made t f fs runs o (let a = row.passes.moved o in omega arith)).0) (λ j e. let e' : i ≡ j = cc (e) in let some = live_some i row.lives in (omega arith, omega arith))))
@@ -160,13 +150,13 @@ module _ (L : Load) (s : Ledger) (own : Owned L s) (p : Placed L s) where
       let g : LedgerFrame = r.1 in
       let fs : List LedgerFrame = r.2 in
       let runs = r.4 in
-      let low = lower t f g fs (ground t f (g ∷ fs) runs.some runs.within runs.stack) in
+      let low = lower t f g fs (ground L s p t f (g ∷ fs) runs.some runs.within runs.stack) in
       subst (Placed L) (sym r.8) (stack_changed t (record g { own = r.3 } ∷ fs) (give (objects_in results) g.party s.seat) s.next_object s.next_call (omega arith)
       (grounded_own L s.loads s.next_instance s.next_call t g r.3 fs low) (let a = few t f (g ∷ fs) runs in omega arith)
-      (seats_given (objects_in results) g.party (λ o c. (own_made t f (g ∷ fs) runs o (let a = r.6 o in omega arith)).0) (λ i e. party_opened t g fs i low e)))
+      (seats_given (objects_in results) g.party (λ o c. (own_made t f (g ∷ fs) runs o (let a = r.6 o in omega arith)).0) (λ i e. party_opened L s.loads s.next_instance s.next_call t g fs i low e)))
   placed_row loaded (entry.Unwound t n) z r =
       let dead = r.4 in
-      let low = lower t r.0 r.1 r.2 (ground t r.0 (r.1 ∷ r.2) dead.some dead.within dead.stack) in
+      let low = lower t r.0 r.1 r.2 (ground L s p t r.0 (r.1 ∷ r.2) dead.some dead.within dead.stack) in
       let a : suc (length (r.1 ∷ r.2)) ≤ 32 = rw dead.stack at (p.small t dead.some dead.within) in
       subst (Placed L) (sym r.8) (stack_changed t (record r.1 { own = r.3 } ∷ r.2) s.seat s.next_object s.next_call (omega arith) (grounded_own L s.loads s.next_instance s.next_call t r.1 r.3 r.2 low) (omega arith) seats)
   placed_row loaded (entry.Reload t x i left) z r =
@@ -199,12 +189,12 @@ module _ (L : Load) (s : Ledger) (own : Owned L s) (p : Placed L s) where
       let opened : i < s.next_instance = (let a = (p.current_of x).0 in let b = r.5 in omega arith) in
       let a : suc (length fs) ≤ 32 = rw dead.stack at (p.small t dead.some dead.within) in
       subst (Placed L) (sym r.8) (stack_changed t (record f { party = owner.Instance i; own = [] } ∷ fs) s.seat s.next_object s.next_call (omega arith)
-      (again_ground t f fs i dead.dead (live_some i r.6) opened (ap s.loads r.5 ∙ (p.current_of x).1 ∙ ap (load_of_target L) (sym r.4.through)) (ground t f fs dead.some dead.within dead.stack)) a seats)
+      (again_ground t f fs i dead.dead (live_some i r.6) opened (ap s.loads r.5 ∙ (p.current_of x).1 ∙ ap (load_of_target L) (sym r.4.through)) (ground L s p t f fs dead.some dead.within dead.stack)) a seats)
   placed_row loaded (entry.Trap t i cause) z r = subst (Placed L) (sym r.4) (ended i)
   placed_row loaded (entry.Kill t i) z r = subst (Placed L) (sym r.4) (ended i)
   placed_row loaded (entry.New t w o ty values) z r = subst (Placed L) (sym r.7) (top t r.0 r.1 r.2 r.3 (at o (Some (Root w)) s.seat) (suc o) s.next_call (omega arith)
       (seat_at o (Some (Root w)) (suc o) (let e = r.5 in omega arith) (let e = r.5 in let q = p.some_object in omega arith)
-      (λ i e. party_opened t r.0 r.1 i (ground t r.0 r.1 r.3.some r.3.within r.3.stack) (cc (r.4, e))) (λ q k e. absurd (cc (e)))))
+      (λ i e. party_opened L s.loads s.next_instance s.next_call t r.0 r.1 i (ground L s p t r.0 r.1 r.3.some r.3.within r.3.stack) (cc (r.4, e))) (λ q k e. absurd (cc (e)))))
   placed_row loaded (entry.Drop t o) z r = subst (Placed L) (sym r.5) (top t r.0 r.1 r.2 r.3 (at o None s.seat) s.next_object s.next_call (omega arith)
       (seat_at o None s.next_object (omega arith) (own_made t r.0 r.1 r.3 o (loses_one r.0.own o r.2 r.4)).0 (λ i e. absurd (cc (e))) (λ q k e. absurd (cc (e)))))
   placed_row loaded (entry.Set t o place values) z r = subst (Placed L) (sym r.6) (top t r.0 r.1 r.2 r.3 s.seat s.next_object s.next_call (omega arith) seats)
@@ -221,7 +211,7 @@ module _ (L : Load) (s : Ledger) (own : Owned L s) (p : Placed L s) where
   placed_row loaded (entry.Unhang t o k v) z r =
       let v_made = made_before v (Hung o k) r.5 in
       subst (Placed L) (sym r.7) (top t r.0 r.1 r.2 r.3 (at v (Some (Root r.0.party)) s.seat) s.next_object s.next_call (omega arith)
-      (seat_at v (Some (Root r.0.party)) s.next_object (omega arith) v_made.0 (λ i e. party_opened t r.0 r.1 i (ground t r.0 r.1 r.3.some r.3.within r.3.stack) (cc (e))) (λ q j e. absurd (cc (e)))))
+      (seat_at v (Some (Root r.0.party)) s.next_object (omega arith) v_made.0 (λ i e. party_opened L s.loads s.next_instance s.next_call t r.0 r.1 i (ground L s p t r.0 r.1 r.3.some r.3.within r.3.stack) (cc (e))) (λ q j e. absurd (cc (e)))))
   placed_row loaded (entry.Show t o values) z r = subst (Placed L) (sym r.4) p
   placed_row loaded (entry.Skip t number) z r = subst (Placed L) (sym r.2) p
   placed_row loaded (entry.Done t) z r = subst (Placed L) (sym r.2) p

@@ -1,48 +1,31 @@
 -- The objects of a live frame are in the heap.
-use Rattle.std.proofs.Common.{◌≡◌, ℕ, zero, suc, ◌+◌, ◌<◌, ◌≤◌, ◌==◌, Bool, true, false, cond, not, ◌||◌, List, [], ◌∷◌, ◌++◌, length, filter, Option, Some, None, refl, ap, sym, subst, ◌∙◌, arith, inl, inr}
+use Rattle.std.proofs.Common.{◌≡◌, ℕ, ◌+◌, ◌<◌, ◌≤◌, ◌==◌, Bool, true, false, not, ◌||◌, List, [], ◌∷◌, ◌++◌, length, filter, Option, Some, None, refl, sym, subst, ◌∙◌, arith, inl, inr}
 use Rattle.std.specs.List.{filter_map}
-use Rattle.std.proofs.lemmas.Bool.{cases_Bool, cases_eq, eq-eqb, eqb-true}
+use Rattle.std.proofs.lemmas.Bool.{cases_Bool, eqb-true}
 use Rattle.rl_defs.specs.declared.values.Owner.{Owner}
 use Rattle.rl_defs.specs.declared.values.Owner.TheVariants as owner
 use Rattle.rl_defs.specs.declared.frame.FrameBody.{FrameBody}
 use Rattle.rl_defs.specs.declared.frame.FrameBody.TheVariants as body
 use Rattle.rl_defs.specs.declared.frame.Action.{Action}
 use Rattle.rl_defs.specs.declared.load.Load.{Load}
-use Rattle.rl_defs.specs.State.{State, StackFrame, Object, Placement, Root, Hung, row, is_live, stack, frames_of}
+use Rattle.rl_defs.specs.State.{State, StackFrame, Object, Placement, Root, row, is_live, stack, frames_of}
 use Rattle.rl_defs.specs.Loans.{object_of, count}
 use Rattle.rl_defs.specs.Crossing.{has}
 use Rattle.rl_defs.specs.Machine.Sound.{object_held, own_of, own_of_body}
-use Rattle.rl_defs.specs.Machine.History.{sum_to}
-use Rattle.machine_laws.specs.Ledger.{LedgerFrame, same_owner, lent_in}
+use Rattle.machine_laws.specs.Ledger.{LedgerFrame, lent_in}
 use Rattle.machine_laws.specs.LedgerOf.{frame_entry, entries_of, seat_of, ledger_of}
-use Rattle.machine_laws.specs.LedgerSound.{own_in, is_of, Owned}
+use Rattle.machine_laws.specs.LedgerSound.{own_in, Owned}
 use Rattle.machine_laws.specs.Shape.{Laid}
 use Rattle.machine_laws.proofs.Rows.{row_within}
 use Rattle.machine_laws.proofs.Tops.{bottom, entries}
 use Rattle.machine_laws.proofs.Seats.{seats, IsIn}
 use Rattle.machine_laws.proofs.Retyping.{body_objects, has_object}
-use Rattle.machine_laws.proofs.OwnEntries.{has_counted}
-
--- one summand of a sum
-pub sum_least : (f : ℕ → ℕ) (n k : ℕ) → 0 < k → k ≤ n → f k ≤ sum_to f n
-sum_least f zero k pos le = absurd (omega arith)
-sum_least f (suc n) k pos le = elim (cases_eq k (suc n)) [
-  | inl e ↦ rw e (omega arith)
-  | inr ne ↦ let r = sum_least f n k pos (omega arith) in omega (arith, r)
-]
-
-pub same_self : (w : Owner) → same_owner w w ≡ true
-same_self (owner.Client a) = eq-eqb a a refl
-same_self (owner.Instance a) = eq-eqb a a refl
-
-pub same_is : (w v : Owner) → same_owner w v ≡ true → w ≡ v
-same_is (owner.Client a) (owner.Client b) e = ap owner.Client (eqb-true a b e)
-same_is (owner.Instance a) (owner.Instance b) e = ap owner.Instance (eqb-true a b e)
-same_is (owner.Client a) (owner.Instance b) e = absurd cc
-same_is (owner.Instance a) (owner.Client b) e = absurd cc
+use Rattle.machine_laws.proofs.Sums.{sum_least}
+use Rattle.machine_laws.proofs.Owners.{same_self, is_of_root}
+use Rattle.machine_laws.proofs.Counts.{has_counted}
 
 -- a frame of a stack has its own objects and its loans counted in the stack's entries
-own_over : (w : Owner) (o : ℕ) (fs : List StackFrame) (rest : List LedgerFrame) → own_in w o rest ≤ own_in w o (entries_of fs rest)
+pub own_over : (w : Owner) (o : ℕ) (fs : List StackFrame) (rest : List LedgerFrame) → own_in w o rest ≤ own_in w o (entries_of fs rest)
 own_over w o [] rest = omega arith
 own_over w o (f ∷ fs) rest = let r = own_over w o fs (frame_entry f ∷ rest) in omega (arith, r)
 
@@ -109,15 +92,7 @@ module _ (L : Load) (s : State) (laid : Laid L s) (own : Owned L (ledger_of L s)
       let in_stack : count o (own_of f) ≤ own_in party o (entries t (stack s t) (row s.threads t)) = rw here (own_counted o below above f (bottom t (row s.threads t) ∷ [])) in
       let in_all = sum_least (λ u. own_in party o ((ledger_of L s).stack u)) (length L.clients) t w.0 w.1 in
       let once = own.once party o lives in
-      go (seats s o) refl (let a : 0 < cond (is_of party (seats s o)) 1 0 = omega (arith, in_stack, in_all, once, some) in a)
-    where
-      go : (p : Option Placement) → seats s o ≡ p → 0 < cond (is_of (owner.Instance f.instance) p) 1 0 → seats s o ≡ Some (Root (owner.Instance f.instance))
-      go None e pos = absurd (omega (arith, pos))
-      go (Some (Root v)) e pos = elim (cases_Bool (same_owner (owner.Instance f.instance) v)) [
-        | inl same ↦ e ∙ ap (λ x. Some (Root x)) (sym (same_is (owner.Instance f.instance) v same))
-        | inr other ↦ absurd (let z : ◌≡◌ {A = ℕ} (cond (same_owner (owner.Instance f.instance) v) 1 0) 0 = rw other refl in omega (arith, pos, z))
-      ]
-      go (Some (Hung p k)) e pos = absurd (omega (arith, pos))
+      is_of_root party (seats s o) (omega (arith, in_stack, in_all, once, some))
 
   -- what is lent to a frame is a root
   pub lent_root : (t o : ℕ) (below above : List StackFrame) (f : StackFrame) → stack s t ≡ below ++ f ∷ above → has f.lent o ≡ true → (w : Owner) × (seats s o ≡ Some (Root w))

@@ -1,5 +1,6 @@
 -- Frames that come and go: what a pushed, popped or changed frame makes of the ledger.
 use Rattle.std.proofs.Common.{◌≡◌, ℕ, ◌-◌, ◌<◌, ◌≤◌, ◌==◌, Bool, List, [], ◌∷◌, ◌++◌, length, Some, refl, ap, ap₂, ◌∙◌, inl, inr}
+use Rattle.std.proofs.lemmas.List.{length-set}
 use mathlib.Core.Path.{fun_ext}
 use Rattle.std.proofs.lemmas.Bool.{cases_Bool}
 use Rattle.rl_defs.specs.declared.load.Load.{Load}
@@ -10,7 +11,6 @@ use Rattle.machine_laws.specs.Ledger.{LedgerFrame, at}
 use Rattle.machine_laws.specs.LedgerOf.{frame_entry, names_held, ledger_of}
 use Rattle.machine_laws.specs.LedgerRows.{with_own}
 use Rattle.machine_laws.specs.Shape.{Laid}
-use Rattle.machine_laws.proofs.Rows.{length_set}
 use Rattle.machine_laws.proofs.Stacks.{entries_push}
 use Rattle.machine_laws.proofs.Tops.{bottom, entries, under, client_within, stacks_at, stacks_with, thread_at, frames_at, done_same}
 use Rattle.machine_laws.proofs.FrameRows.{gone_on, entry_same}
@@ -60,7 +60,7 @@ thread_ledger L s t old new laid of same none =
 -- what stays laid out
 pub laid_stack : (L : Load) (s : State) (t : ℕ) (frames : List StackFrame) → Laid L s → Laid L (with_stack s t frames)
 laid_stack L s t frames laid = record {
-  stacks = length_set s.stacks (t - 1) frames ∙ laid.stacks;
+  stacks = length-set s.stacks (t - 1) frames ∙ laid.stacks;
   threads = laid.threads;
   shadows = laid.shadows;
   objects = laid.objects;
@@ -70,7 +70,7 @@ laid_stack L s t frames laid = record {
 pub laid_thread : (L : Load) (s : State) (t : ℕ) (thread : Thread) → Laid L s → Laid L (with_thread s t thread)
 laid_thread L s t thread laid = record {
   stacks = laid.stacks;
-  threads = length_set s.threads (t - 1) thread ∙ laid.threads;
+  threads = length-set s.threads (t - 1) thread ∙ laid.threads;
   shadows = laid.shadows;
   objects = laid.objects;
   started = laid.started;

@@ -9,9 +9,9 @@ use Rattle.rl_defs.specs.Domains.{load_of_target, is_serial}
 use Rattle.machine_laws.specs.Ledger.{same_owner, LedgerFrame, Ledger, at}
 use Rattle.machine_laws.specs.LedgerRows.{IsFree, callee, Row}
 use Rattle.machine_laws.specs.LedgerSound.{Placed}
-use Rattle.machine_laws.proofs.Sums.{at_other}
 use Rattle.machine_laws.proofs.OneStack.{at_each}
 use Rattle.machine_laws.proofs.Ranks.{is_entered, RankedIn, RanksIn, Ranks, below_in, entered_frame, ranked_weaker, ranked_opened, none_entered}
+use Rattle.machine_laws.proofs.Rows.{at_other}
 
 module _ (L : Load) (s : Ledger) (p : Placed L s) (k : Ranks L s) where
   -- a stack changes, into which only the instance i may come, where no other thread is

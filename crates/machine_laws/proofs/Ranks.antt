@@ -7,8 +7,8 @@ use Rattle.rl_defs.specs.Domains.{load_of_target, is_serial}
 use Rattle.machine_laws.specs.Ledger.{same_owner, LedgerFrame, Ledger, at}
 use Rattle.machine_laws.specs.LedgerRows.{enters, IsBelow}
 use Rattle.machine_laws.specs.LedgerSound.{Grounded}
-use Rattle.machine_laws.proofs.Sums.{at_other}
 use Rattle.machine_laws.proofs.Owners.{same_is}
+use Rattle.machine_laws.proofs.Rows.{at_other}
 
 -- whether a frame of the instance is among these
 abbrev pub is_entered : ℕ → List LedgerFrame → Bool

@@ -1,5 +1,5 @@
 -- A call that is refused is a row of the ledger.
-use Rattle.std.proofs.Common.{◌≡◌, ℕ, ◌-◌, true, not, List, [], ◌∷◌, ◌++◌, Some, None, refl, ap, sym, subst, ◌∙◌, arith, inl, inr}
+use Rattle.std.proofs.Common.{◌≡◌, ℕ, ◌-◌, true, List, [], ◌∷◌, Some, None, refl, ap, sym, subst, ◌∙◌, arith, inl, inr}
 use Rattle.std.specs.List.{filter_map}
 use Rattle.rl_defs.specs.declared.values.Arg.{Arg}
 use Rattle.rl_defs.specs.declared.values.RpcCode.{RpcCode}
@@ -15,15 +15,15 @@ use Rattle.rl_defs.specs.declared.load.Command.TheVariants as command
 use Rattle.rl_defs.specs.DomainValue.{Domain}
 use Rattle.rl_defs.specs.CodeFits.{after_answer}
 use Rattle.rl_defs.specs.Instructions.{Stand, Registers}
-use Rattle.rl_defs.specs.State.{State, StackFrame, Thread, row, is_live, stack, frames_of, with_thread}
+use Rattle.rl_defs.specs.State.{State, StackFrame, Thread, row, is_live, stack}
 use Rattle.rl_defs.specs.Loans.{count}
 use Rattle.rl_defs.specs.Step.{names_of}
 use Rattle.rl_defs.specs.Wanted.{Commands, top, commands_of, instance_load}
-use Rattle.rl_defs.specs.Crossing.{Wish, has, moved_of, is_undone}
+use Rattle.rl_defs.specs.Crossing.{Wish, moved_of, is_undone}
 use Rattle.rl_defs.specs.Machine.Objects.{without}
 use Rattle.rl_defs.specs.Machine.Seen.{domain_of_load, domain_of_instance}
 use Rattle.rl_defs.specs.Machine.NativeFits.{types_of}
-use Rattle.rl_defs.specs.Machine.Frames.{below_top, with_body, waiting_body, Answers, AnswersBody, Replies, AnswersTop, AnswersFrame, AnswersLive, AnswersClient, instr_at, answered_code, stand_after, code_at, held_after}
+use Rattle.rl_defs.specs.Machine.Frames.{below_top, with_body, Answers, AnswersBody, Replies, AnswersTop, AnswersFrame, AnswersLive, AnswersClient, instr_at, answered_code, stand_after, code_at, held_after}
 use Rattle.rl_defs.specs.Machine.Calling.{with_fuel}
 use Rattle.rl_defs.specs.Machine.CallRows.{numbered, Refuses}
 use Rattle.rl_defs.specs.Machine.Sound.{own_of, own_of_body}
@@ -36,12 +36,9 @@ use Rattle.machine_laws.specs.Plans.{Plans}
 use Rattle.machine_laws.specs.Registers.{HasTables, own}
 use Rattle.machine_laws.specs.Fitting.{Fitting}
 use Rattle.machine_laws.proofs.Rows.{at_same, row_set_same, row_within}
-use Rattle.machine_laws.proofs.Objects.{rises_filter}
 use Rattle.machine_laws.proofs.Stacks.{top_pushed}
-use Rattle.machine_laws.proofs.Tops.{client_within}
 use Rattle.machine_laws.proofs.Acting.{commands_as}
 use Rattle.machine_laws.proofs.Wishes.{ClientWish, FrameWish, wish_as}
-use Rattle.machine_laws.proofs.FrameRows.{gone_on}
 use Rattle.machine_laws.proofs.Replying.{Replied, client_replied, frame_replied}
 use Rattle.machine_laws.proofs.EndingRows.{refuse_row}
 use Rattle.machine_laws.proofs.ClientRows.{bind_none}
@@ -52,18 +49,11 @@ use Rattle.rl_defs.specs.CodeNames.{method_at, method_of_function}
 use Rattle.rl_defs.specs.CodeLaws.{StandsAt}
 use Rattle.machine_laws.proofs.OwnFunctions.{instr_here, answer_function}
 use Rattle.machine_laws.proofs.CodeDoing.{has_tables, keeps_rules}
-use Rattle.machine_laws.proofs.Callers.{calling, caller_frame, waits, waits_same, code_calls, code_waits, native_calls}
+use Rattle.machine_laws.proofs.Callers.{calling, caller_frame, waits, waits_same, code_calls, code_waits}
 use Rattle.machine_laws.proofs.CallSteps.{ClientsCall, called}
 use Rattle.machine_laws.proofs.EndSteps.{loads_by, reply_instances}
-
-pub laid_without : (L : Load) (s : State) (os : List ℕ) (c : ℕ) → Laid L s → Laid L (numbered c (without os s))
-laid_without L s os c laid = record {
-  stacks = laid.stacks;
-  threads = laid.threads;
-  shadows = laid.shadows;
-  objects = rises_filter (λ x. not (has os x.number)) 0 s.next_object s.objects laid.objects;
-  started = laid.started;
-}
+use Rattle.machine_laws.proofs.Charged.{charged_is, stack_charged, instances_charged, native_waits}
+use Rattle.machine_laws.proofs.LaidRows.{laid_same, laid_without}
 
 -- a reply by which the caller's own objects stay as many
 pub record KeepsReplied (L : Load) (s : State) (t : ℕ) (a : Answer) (z : State) : Type 0 where
@@ -121,28 +111,17 @@ module _ (L : Load) (s : State) (plans : Plans L) (tables : HasTables L.tables) 
               where
                 failed_held : (act : Action) (held' : List ℕ) → held_after act (answer.Failed why) held' ≡ held'
                 failed_held (action.New ty) h = refl
-                failed_held (action.Drop o) h = refl
-                failed_held (action.Call x m args) h = refl
-                failed_held (action.Set o k values) h = refl
-                failed_held (action.Wput k v) h = refl
-                failed_held (action.Take k) h = refl
-                failed_held (action.Put k o) h = refl
-                failed_held (action.DevGet o b) h = refl
-                failed_held (action.DevPut b o) h = refl
-                failed_held (action.Hang q k o) h = refl
-                failed_held (action.Unhang q k) h = refl
-                failed_held (action.Ret results) h = refl
-                failed_held (action.Trap c) h = refl
-            by_waits (body.Code at regs) e = absurd (
-                let native : g.body ≡ waiting_body (domain_of_instance L s wished.frame.instance) (moved_of w.args) wished.frame.body = refl in
-                let same = (native_calls L s t plans tables laid owned fits ready w wished held kept is).0 in
-                let e' : waiting_body (domain_of_instance L s f.instance) (moved_of w.args) (body.Native held kept) ≡ body.Code at regs = sym (ap (waiting_body (domain_of_instance L s f.instance) (moved_of w.args)) is) ∙ sym (ap (λ (h : StackFrame). waiting_body (domain_of_instance L s h.instance) (moved_of w.args) h.body) same) ∙ e in cc)
+                failed_held other h = refl
+            by_waits (body.Code at regs) e = absurd (native_waits L s plans tables laid owned fits t ready w wished held kept is at regs e)
 
   -- the state in which the call was refused
   abbrev pub refused_state : ℕ → State
   refused_state c = numbered c (without (moved_of w.args) w.charged)
 
   module _ (c : ℕ) (z : State) (why : RpcCode) (laid' : Laid L w.charged) (replies : Replies L (refused_state c) t (answer.Failed why) z) where
+    laid_refused : Laid L (refused_state c)
+    laid_refused = laid_same L (without (moved_of w.args) w.charged) (refused_state c) refl refl refl refl refl (laid_without L w.charged (moved_of w.args) laid')
+
     -- a frame whose call is refused
     module _ (wished : FrameWish L s t w) where
       abbrev waiting_frame : StackFrame
@@ -151,37 +130,26 @@ module _ (L : Load) (s : State) (plans : Plans L) (tables : HasTables L.tables) 
       abbrev charged_thread : Thread
       charged_thread = with_fuel (wished.fuel - 1) wished.thread
 
-      charged_is : w.charged ≡ gone_on s t waiting_frame charged_thread
-      charged_is = ap (λ (v : Wish). v.charged) wished.is
-
-      stack_is : stack w.charged t ≡ below_top (stack s t) ++ waiting_frame ∷ []
-      stack_is =
-          let b = client_within L s t wished.thread laid wished.of in
-          ap (λ (v : State). stack v t) charged_is ∙ ap frames_of (row_set_same s.stacks t (below_top (stack s t) ++ waiting_frame ∷ []) b.0 (let l = laid.stacks in omega (arith, b.1, l)))
-
       on_top : top (stack w.charged t) ≡ Some waiting_frame
-      on_top = ap top stack_is ∙ top_pushed (below_top (stack s t)) waiting_frame
+      on_top = ap top (stack_charged L s plans tables laid owned fits t ready w wished) ∙ top_pushed (below_top (stack s t)) waiting_frame
 
       thread_is : row w.charged.threads t ≡ Some charged_thread
       thread_is =
           let b = row_within s.threads t wished.thread wished.of in
-          ap (λ (v : State). row v.threads t) charged_is ∙ row_set_same s.threads t charged_thread b.0 b.1
-
-      instances_are : w.charged.instances ≡ s.instances
-      instances_are = ap (λ (v : State). v.instances) charged_is
+          ap (λ (v : State). row v.threads t) (charged_is L s plans tables laid owned fits t ready w wished) ∙ row_set_same s.threads t charged_thread b.0 b.1
 
       lives : is_live w.charged waiting_frame.instance ≡ true
       lives =
           let same : waiting_frame.instance ≡ (caller_frame L s t plans tables laid owned fits ready w wished).instance = ap (λ (h : StackFrame). h.instance) (waits_same L s t plans tables laid owned fits ready w wished) in
-          ap (λ is'. Rattle.rl_defs.specs.State.lives (row is' waiting_frame.instance)) instances_are ∙ ap (is_live s) same ∙ (calling L s t plans tables laid owned fits ready w wished).lives
+          ap (λ is'. Rattle.rl_defs.specs.State.lives (row is' waiting_frame.instance)) (instances_charged L s plans tables laid owned fits t ready w wished) ∙ ap (is_live s) same ∙ (calling L s t plans tables laid owned fits ready w wished).lives
 
       pub frame_keeps : KeepsReplied L (refused_state c) t (answer.Failed why) z
       frame_keeps =
           let answers : AnswersTop L (refused_state c) t (answer.Failed why) (Some waiting_frame) z = subst (λ found. AnswersTop L (refused_state c) t (answer.Failed why) found z) on_top replies in
           let live : AnswersLive L (refused_state c) t waiting_frame (answer.Failed why) z = subst (λ b. AnswersFrame L (refused_state c) t waiting_frame (answer.Failed why) b z) lives answers in
-          let loads = λ (i : ℕ). loads_by (refused_state c) z (reply_instances L (refused_state c) z t (answer.Failed why) replies) i ∙ loads_by s (refused_state c) instances_are i in
+          let loads = λ (i : ℕ). loads_by (refused_state c) z (reply_instances L (refused_state c) z t (answer.Failed why) replies) i ∙ loads_by s (refused_state c) (instances_charged L s plans tables laid owned fits t ready w wished) i in
           record {
-            replied = frame_replied L (refused_state c) t charged_thread (answer.Failed why) z (laid_without L w.charged (moved_of w.args) c laid') thread_is waiting_frame on_top live;
+            replied = frame_replied L (refused_state c) t charged_thread (answer.Failed why) z laid_refused thread_is waiting_frame on_top live;
             same = failed_own wished z live.frame why loads live.answers;
           }
 
@@ -190,16 +158,13 @@ module _ (L : Load) (s : State) (plans : Plans L) (tables : HasTables L.tables) 
       client_alone : stack s t ≡ []
       client_alone = (commands_as L s t (Commands (command.Call w.target w.method wished.given wished.names)) tt wished.wants).alone
 
-      client_charged : Thread
-      client_charged = record wished.thread { fuel = L.fuel - 1; names = Rattle.std.specs.Prelude.map (Rattle.rl_defs.specs.Crossing.kept (moved_of w.args)) wished.thread.names }
-
       pub client_keeps : KeepsReplied L (refused_state c) t (answer.Failed why) z
       client_keeps =
           let is : w.charged ≡ _ = ap (λ (v : Wish). v.charged) wished.is in
           let none : top (stack w.charged t) ≡ None = ap (λ (v : State). top (stack v t)) is ∙ ap top client_alone in
           let answers : AnswersClient L (refused_state c) t (answer.Failed why) z = subst (λ found. AnswersTop L (refused_state c) t (answer.Failed why) found z) none replies in
           record {
-            replied = client_replied L (refused_state c) t answers.thread (answer.Failed why) z (laid_without L w.charged (moved_of w.args) c laid') answers.of none answers;
+            replied = client_replied L (refused_state c) t answers.thread (answer.Failed why) z laid_refused answers.of none answers;
             same = λ o. ap (λ ns. count o (filter_map Rattle.rl_defs.specs.Machine.Sound.object_held ns)) (bind_none (names_of (Rattle.std.specs.Prelude.slice_get (commands_of (row L.clients t)) answers.thread.place)) answers.thread.names);
           }
 

@@ -1,6 +1,5 @@
 -- Stacks fit behind a refused call.
-use Rattle.std.proofs.Common.{◌≡◌, ◌≢◌, ℕ, ◌-◌, ◌<◌, ◌≤◌, true, List, [], ◌∷◌, ◌++◌, length, Some, None, refl, ap, sym, subst, ◌∙◌, arith, inl, inr}
-use Rattle.std.proofs.lemmas.Bool.{cases_eq}
+use Rattle.std.proofs.Common.{◌≡◌, ◌≢◌, ℕ, ◌<◌, ◌≤◌, true, List, [], ◌∷◌, ◌++◌, length, Some, None, refl, ap, sym, subst, ◌∙◌, arith, inl, inr}
 use Rattle.rl_defs.specs.declared.values.Arg.{Arg}
 use Rattle.rl_defs.specs.declared.values.RpcCode.{RpcCode}
 use Rattle.rl_defs.specs.declared.entry.Entry.{Entry}
@@ -14,7 +13,7 @@ use Rattle.rl_defs.specs.declared.load.Load.{Load}
 use Rattle.rl_defs.specs.declared.load.Command.TheVariants as command
 use Rattle.rl_defs.specs.DomainValue.{Domain}
 use Rattle.rl_defs.specs.Domains.{is_native}
-use Rattle.rl_defs.specs.State.{State, StackFrame, Thread, row, is_live, stack, frames_of}
+use Rattle.rl_defs.specs.State.{State, StackFrame, row, is_live, stack, frames_of}
 use Rattle.rl_defs.specs.Loans.{sweep as sweep_state}
 use Rattle.rl_defs.specs.Crossing.{Wish, is_undone, moved_of}
 use Rattle.rl_defs.specs.Wanted.{top, instance_load, Commands}
@@ -29,22 +28,20 @@ use Rattle.machine_laws.specs.Shape.{Laid}
 use Rattle.machine_laws.specs.Plans.{Plans}
 use Rattle.machine_laws.specs.Registers.{HasTables}
 use Rattle.machine_laws.specs.Fitting.{BodyFits, StackFits, Fitting}
-use Rattle.machine_laws.proofs.Rows.{row_set_same, row_set_other, length_set}
+use Rattle.machine_laws.proofs.Rows.{row_set_same, row_set_other}
 use Rattle.machine_laws.proofs.Stacks.{top_splits, top_pushed, below_pushed}
-use Rattle.machine_laws.proofs.Tops.{client_within}
 use Rattle.machine_laws.proofs.Acting.{commands_as}
 use Rattle.machine_laws.proofs.Wishes.{ClientWish, FrameWish, wish_as}
 use Rattle.machine_laws.proofs.CodeDoing.{body_fits}
 use Rattle.machine_laws.proofs.FrameRows.{answered_same}
 use Rattle.machine_laws.proofs.Callers.{calling, caller_frame, waits, waits_same}
-use Rattle.machine_laws.proofs.StackFits.{stack_kept}
 use Rattle.machine_laws.proofs.LaidRows.{laid_row}
-use Rattle.machine_laws.proofs.Agreeing.{same_agree, below_kept, laid_z}
+use Rattle.machine_laws.proofs.Agreeing.{laid_z, other_fits, all_fit, changed_fits}
 use Rattle.machine_laws.proofs.DoingFits.{code_on_top, native_on_top}
 use Rattle.machine_laws.proofs.DoneFits.{types_kept}
-use Rattle.machine_laws.proofs.CalledFits.{stack_charged, stacks_charged, instances_charged}
 use Rattle.machine_laws.proofs.RefuseSteps.{code_failed}
-use Rattle.machine_laws.proofs.EndSteps.{thread_there, loads_by, reply_instances}
+use Rattle.machine_laws.proofs.EndSteps.{loads_by, reply_instances, ready_within}
+use Rattle.machine_laws.proofs.Charged.{stack_charged, instances_charged, others_charged, count_charged, native_waits}
 
 module _ (L : Load) (s : State) (plans : Plans L) (tables : HasTables L.tables) (laid : Laid L s) (owned : Owned L (ledger_of L s)) (placed : Placed L (ledger_of L s)) (fits : Fitting L s) (t c x m : ℕ) (why : RpcCode) (args : List Arg) (made : State)
     (ready : is_undone (row s.threads t) ≡ true) (r : Refuses L s t c why x m args made) (owned' : Owned L (ledger_of L (sweep_state made))) where
@@ -61,10 +58,7 @@ module _ (L : Load) (s : State) (plans : Plans L) (tables : HasTables L.tables) 
   refused = numbered c (without (moved_of args) r.charged)
 
   within : (0 < t) × (t ≤ length s.stacks)
-  within = let th = thread_there s t ready in let b = client_within L s t th.0 laid th.1 in (b.0, (let l = laid.stacks in let e = b.1 in omega (arith, l, e)))
-
-  others_fit : (u : ℕ) → stack made u ≡ stack s u → StackFits L z (stack z u)
-  others_fit u there = subst (StackFits L z) (sym there) (stack_kept L s z (stack s u) (same_agree L s entry' made laid owned placed r owned' u there) (fits.bodies u))
+  within = ready_within L s t laid ready
 
   -- a frame whose call is refused
   module _ (wished : FrameWish L s t w) where
@@ -79,12 +73,6 @@ module _ (L : Load) (s : State) (plans : Plans L) (tables : HasTables L.tables) 
 
     refused_here : stack refused t ≡ below ++ g ∷ []
     refused_here = stack_charged L s plans tables laid owned fits t ready w wished
-
-    refused_there : (u : ℕ) → u ≢ t → stack refused u ≡ stack s u
-    refused_there u ne = ap (λ st. frames_of (row st u)) (stacks_charged L s plans tables laid owned fits t ready w wished) ∙ ap frames_of (row_set_other s.stacks t u (below ++ g ∷ []) within.0 ne)
-
-    long : length refused.stacks ≡ length s.stacks
-    long = ap (λ xs. length xs) (stacks_charged L s plans tables laid owned fits t ready w wished) ∙ length_set s.stacks (t - 1) (below ++ g ∷ [])
 
     instances : refused.instances ≡ s.instances
     instances = instances_charged L s plans tables laid owned fits t ready w wished
@@ -110,11 +98,11 @@ module _ (L : Load) (s : State) (plans : Plans L) (tables : HasTables L.tables) 
 
     here : stack z t ≡ below ++ after ∷ []
     here =
-        ap (λ (st : State). stack st t) live.becomes ∙ ap frames_of (row_set_same refused.stacks t (below_top (stack refused t) ++ after ∷ []) within.0 (let e = within.1 in omega (arith, long, e)))
+        ap (λ (st : State). stack st t) live.becomes ∙ ap frames_of (row_set_same refused.stacks t (below_top (stack refused t) ++ after ∷ []) within.0 (let e = within.1 in let long = count_charged L s plans tables laid owned fits t ready w wished in omega (arith, long, e)))
         ∙ ap (λ fs. below_top fs ++ after ∷ []) refused_here ∙ ap (λ fs. fs ++ after ∷ []) (below_pushed below g)
 
     there : (u : ℕ) → u ≢ t → stack made u ≡ stack s u
-    there u ne = ap (λ (st : State). stack st u) live.becomes ∙ ap frames_of (row_set_other refused.stacks t u (below_top (stack refused t) ++ after ∷ []) within.0 ne) ∙ refused_there u ne
+    there u ne = ap (λ (st : State). stack st u) live.becomes ∙ ap frames_of (row_set_other refused.stacks t u (below_top (stack refused t) ++ after ∷ []) within.0 ne) ∙ others_charged L s plans tables laid owned fits t ready w wished u ne
 
     domain_same : domain_of_instance L made f.instance ≡ domain_of_instance L s f.instance
     domain_same = ap (domain_of_load L) (load' f.instance)
@@ -139,17 +127,14 @@ module _ (L : Load) (s : State) (plans : Plans L) (tables : HasTables L.tables) 
                 let got : AnswersBody L made g (answer.Failed why) (body.Native held' act) after = subst (λ b. AnswersBody L made g (answer.Failed why) b after) e live.answers in
                 let native' : is_native (domain_of_instance L made g.instance).lines ≡ true = subst (λ (h : StackFrame). is_native (domain_of_instance L made h.instance).lines ≡ true) (sym g_is) native in
                 native_on_top L made t below g after (held_after act (answer.Failed why) held') got.0 (laid_row L s entry' made laid r) (laid_z L s entry' made laid owned placed r owned') owned' got.1 here up native' got.2
-            by_waits native (body.Code at regs) e = absurd (Rattle.machine_laws.proofs.CalledFits.native_waits L s plans tables laid owned fits t ready w wished held kept is at regs e)
+            by_waits native (body.Code at regs) e = absurd (native_waits L s plans tables laid owned fits t ready w wished held kept is at regs e)
 
     frame_fits : (u : ℕ) → StackFits L z (stack z u)
-    frame_fits u = elim (cases_eq u t) [
-      | inl is ↦ subst (λ n. StackFits L z (stack z n)) (sym is) (
-          let split = top_splits (stack s t) f (calling L s t plans tables laid owned fits ready w wished).on_top in
-          let below' = below_kept L s entry' made laid owned placed r owned' t f below [] (after ∷ []) split here (subst (StackFits L s) split (fits.bodies t)) in
-          let same : after ≡ with_body f after.body = answered_same L made g (answer.Failed why) g.body after live.answers ∙ ap (λ (h : StackFrame). with_body h after.body) g_is in
-          subst (StackFits L z) (sym here) (below' after [] (ap (λ (h : StackFrame). h.target) same) (ap (λ (h : StackFrame). h.method) same) (ap (λ (h : StackFrame). h.args) same) (after_fits, tt)))
-      | inr ne ↦ others_fit u (there u ne)
-    ]
+    frame_fits =
+        let same : after ≡ with_body f after.body = answered_same L made g (answer.Failed why) g.body after live.answers ∙ ap (λ (h : StackFrame). with_body h after.body) g_is in
+        all_fit L s entry' made laid owned placed r owned' t
+        (changed_fits L s entry' made laid owned placed r owned' t f after below [] [] (top_splits (stack s t) f (calling L s t plans tables laid owned fits ready w wished).on_top) here same (fits.bodies t) (after_fits, tt))
+        there fits.bodies
 
   -- a client whose call is refused
   client_fits : ClientWish L s t w → (u : ℕ) → StackFits L z (stack z u)
@@ -159,7 +144,7 @@ module _ (L : Load) (s : State) (plans : Plans L) (tables : HasTables L.tables) 
       let alone : stack s t ≡ [] = (commands_as L s t (Commands (command.Call w.target w.method wished.given wished.names)) tt wished.wants).alone in
       let none : top (stack refused t) ≡ None = ap (λ st. top (frames_of (row st t))) stacks' ∙ ap top alone in
       let answers : AnswersClient L refused t (answer.Failed why) made = subst (λ found. AnswersTop L refused t (answer.Failed why) found made) none r.replies in
-      others_fit u (ap (λ (v : State). stack v u) answers.becomes ∙ ap (λ st. frames_of (row st u)) stacks')
+      other_fits L s entry' made laid owned placed r owned' u (ap (λ (v : State). stack v u) answers.becomes ∙ ap (λ st. frames_of (row st u)) stacks') (fits.bodies u)
 
   pub refused_fits : (u : ℕ) → StackFits L z (stack z u)
   refused_fits u = elim (wish_as L s t w r.wants) [

@@ -18,7 +18,7 @@ use Rattle.machine_laws.specs.Ledger.{at}
 use Rattle.machine_laws.specs.LedgerOf.{ledger_of}
 use Rattle.machine_laws.specs.LedgerRows.{Row}
 use Rattle.machine_laws.specs.Shape.{Laid}
-use Rattle.machine_laws.proofs.Rows.{at_same, at_other, row_within, row_set_same, row_set_other}
+use Rattle.machine_laws.proofs.Rows.{at_same, at_other, row_within, row_set_same, row_set_other, zeros}
 use Rattle.machine_laws.proofs.Tops.{client_within, undone}
 use Rattle.machine_laws.proofs.Instances.{words_read}
 use Rattle.machine_laws.proofs.CallingRows.{current_same}
@@ -46,11 +46,6 @@ rows_append g xs y j = elim (cases_eq j (length xs + 1)) [
   | inl e ↦ rw (e, row_append_last xs y, at_same (length xs + 1) (g (Some y)) (λ k. g (row xs k))) refl
   | inr ne ↦ rw (row_append_other xs y j ne, at_other (length xs + 1) (g (Some y)) (λ k. g (row xs k)) j ne) refl
 ]
-
-zeros : (n k : ℕ) → ◌≡◌ {A = ℕ} (slice_index_or (replicate n 0) k 0) 0
-zeros zero k = refl
-zeros (suc n) zero = refl
-zeros (suc n) (suc k) = zeros n k
 
 empties : (names : List (List ℕ)) (k o : ℕ) → slice_get (map (λ name. None) names) k ≡ Some (Some o) → ⊥
 empties [] k o e = cc

@@ -1,6 +1,7 @@
 -- Script names that fit behind what a thread did.
 use Rattle.std.proofs.Common.{◌≡◌, ℕ, ◌<◌, ◌≤◌, true, ◌⊎◌, List, [], length, map, Option, Some, None, slice_get, slice_set, ap, sym, ◌∙◌, arith, inl, inr}
 use Rattle.std.proofs.lemmas.Bool.{cases_Bool, cases_eq}
+use Rattle.std.proofs.lemmas.List.{length-set}
 use Rattle.rl_defs.specs.declared.values.Value.{Value}
 use Rattle.rl_defs.specs.declared.values.Value.TheVariants as value
 use Rattle.rl_defs.specs.declared.tables.Kind.{Kind}
@@ -17,9 +18,8 @@ use Rattle.rl_defs.specs.Machine.ObjectRows.{without_name}
 use Rattle.rl_defs.specs.Machine.Sound.{BindsName}
 use Rattle.valid_loads.specs.ScriptFacts.{ScriptsStand}
 use Rattle.machine_laws.specs.Fitting.{BindsLater, NamesFit}
-use Rattle.machine_laws.proofs.Rows.{length_set}
 use Rattle.machine_laws.proofs.ClientRows.{bind_none}
-use Rattle.machine_laws.proofs.Retyping.{one_value_same}
+use Rattle.machine_laws.proofs.Retyping.{value_same}
 use Rattle.machine_laws.proofs.NameCounts.{objects_of, held_some, held_set_same, held_set_other, held_kept, kept_length}
 use Rattle.machine_laws.proofs.NameBinds.{Unused, held_bound, bound_none, bound_length}
 
@@ -37,11 +37,11 @@ pub names_renamed : (L : Load) (s z : State) (t : ℕ) (types : Typing) (old new
     → NamesFit L z t new
 names_renamed L s z t types old new fits renamed before behind traits = record {
   kinds = λ k v is.
-      let now = λ (of : Kind) (suits : value_suits types of v ≡ true). one_value_same types (types_of L z) of v (λ o e. behind o (held_some new.names k o (is ∙ ap Some e))) (λ x. sym (traits x)) suits in
+      let now = λ (of : Kind) (suits : value_suits types of v ≡ true). value_same types (types_of L z) of v (λ o e. behind o (held_some new.names k o (is ∙ ap Some e))) (λ x. sym (traits x)) suits in
       elim (renamed.holds k v is) [
         | inl kept' ↦
             let r = fits.kinds k v kept' in
-            (r.0, r.1, now r.0 (one_value_same (types_of L s) types r.0 v (λ o e. before o (held_some old.names k o (kept' ∙ ap Some e))) traits r.2))
+            (r.0, r.1, now r.0 (value_same (types_of L s) types r.0 v (λ o e. before o (held_some old.names k o (kept' ∙ ap Some e))) traits r.2))
         | inr new' ↦ (new'.0, new'.1, now new'.0 new'.2)
       ];
   later = λ k binds. renamed.later k binds (fits.later k (binds.0, binds.1, binds.2, (let a = binds.3 in let b = renamed.place in omega (arith, a, b)), binds.4, binds.5));
@@ -81,7 +81,7 @@ renamed_unbound L types t k thread lt = record {
     | inl same ↦ ap (held (slice_set thread.names k None)) same ∙ held_set_same thread.names k None lt
     | inr apart ↦ held_set_other thread.names k j None apart ∙ none
   ];
-  room = length_set thread.names k None;
+  room = length-set thread.names k None;
 }
 
 -- names whose objects are moved

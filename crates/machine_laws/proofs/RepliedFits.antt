@@ -1,6 +1,6 @@
 -- Stacks fit behind a return and an unwound call.
-use Rattle.std.proofs.Common.{◌≡◌, ◌≢◌, ℕ, ◌-◌, ◌<◌, ◌≤◌, Bool, true, false, List, [], ◌∷◌, ◌++◌, length, Option, Some, None, slice_set, refl, ap, sym, subst, ◌∙◌, arith, inl, inr}
-use Rattle.std.proofs.lemmas.Bool.{cases_eq}
+use Rattle.std.proofs.Common.{◌≡◌, ◌≢◌, ℕ, ◌-◌, ◌<◌, ◌≤◌, Bool, true, false, List, [], ◌∷◌, ◌++◌, length, Option, Some, None, slice_set, refl, ap, sym, subst, ◌∙◌, arith, append_assoc}
+use Rattle.std.proofs.lemmas.List.{length-set}
 use Rattle.rl_defs.specs.declared.entry.Entry.{Entry}
 use Rattle.rl_defs.specs.declared.tables.MethodRow.{MethodRow}
 use Rattle.rl_defs.specs.declared.frame.Action.{Action}
@@ -23,22 +23,18 @@ use Rattle.machine_laws.specs.Shape.{Laid}
 use Rattle.machine_laws.specs.Plans.{Plans}
 use Rattle.machine_laws.specs.Registers.{HasTables, received}
 use Rattle.machine_laws.specs.Fitting.{BodyFits, StackFits, Fitting}
-use Rattle.machine_laws.proofs.Rows.{row_set_same, row_set_other, length_set}
+use Rattle.machine_laws.proofs.Rows.{row_set_same, row_set_other}
 use Rattle.machine_laws.proofs.Stacks.{top_none, top_splits}
-use Rattle.machine_laws.proofs.Tops.{client_within}
+use Rattle.machine_laws.proofs.Tops.{client_stack}
 use Rattle.machine_laws.proofs.FrameRows.{answered_same}
-use Rattle.machine_laws.proofs.StackFits.{fits_split, stack_kept}
+use Rattle.machine_laws.proofs.StackFits.{fits_split}
 use Rattle.machine_laws.proofs.Moves.{IsNew}
 use Rattle.machine_laws.proofs.LaidRows.{laid_row}
 use Rattle.machine_laws.proofs.StaysRows.{instances_row}
-use Rattle.machine_laws.proofs.Agreeing.{stands, laid_z, same_agree, below_kept}
+use Rattle.machine_laws.proofs.Agreeing.{stands, laid_z, all_fit, changed_fits}
 use Rattle.machine_laws.proofs.DoingFits.{code_on_top, native_on_top}
 use Rattle.machine_laws.proofs.DoneFits.{types_kept}
 use Rattle.machine_laws.proofs.WaitingAnswers.{IsReply, ReplySuits, code_replied}
-
-joined : (xs ys zs : List StackFrame) → (xs ++ ys) ++ zs ≡ xs ++ (ys ++ zs)
-joined [] ys zs = refl
-joined (x ∷ xs) ys zs = ap (λ l. x ∷ l) (joined xs ys zs)
 
 module _ (L : Load) (s : State) (e : Entry) (made : State) (plans : Plans L) (tables : HasTables L.tables) (laid : Laid L s) (owned : Owned L (ledger_of L s)) (placed : Placed L (ledger_of L s)) (fits : Fitting L s) (r : RowOf L s e made) (owned' : Owned L (ledger_of L (sweep_state made))) (old : IsNew e → ⊥)
     (t : ℕ) (thread : Thread) (of : row s.threads t ≡ Some thread) (f : StackFrame) (on_top : top (stack s t) ≡ Some f) (s' : State) (stacks' : s'.stacks ≡ slice_set s.stacks (t - 1) (below_top (stack s t))) (instances' : s'.instances ≡ s.instances)
@@ -51,7 +47,7 @@ module _ (L : Load) (s : State) (e : Entry) (made : State) (plans : Plans L) (ta
   left = below_top (stack s t)
 
   within : (0 < t) × (t ≤ length s.stacks)
-  within = let w = client_within L s t thread laid of in (w.0, (let l = laid.stacks in let b = w.1 in omega (arith, l, b)))
+  within = client_stack L s t thread laid of
 
   popped_here : stack s' t ≡ left
   popped_here = ap (λ st. frames_of (row st t)) stacks' ∙ ap frames_of (row_set_same s.stacks t left within.0 within.1)
@@ -60,32 +56,22 @@ module _ (L : Load) (s : State) (e : Entry) (made : State) (plans : Plans L) (ta
   popped_there u ne = ap (λ st. frames_of (row st u)) stacks' ∙ ap frames_of (row_set_other s.stacks t u left within.0 ne)
 
   next_split : (g : StackFrame) → top left ≡ Some g → stack s t ≡ below_top left ++ g ∷ (f ∷ [])
-  next_split g is = top_splits (stack s t) f on_top ∙ ap (λ fs. fs ++ f ∷ []) (top_splits left g is) ∙ joined (below_top left) (g ∷ []) (f ∷ [])
-
-  -- the stacks of others stay
-  others_fit : (u : ℕ) → stack made u ≡ stack s u → StackFits L z (stack z u)
-  others_fit u here = subst (StackFits L z) (sym here) (stack_kept L s z (stack s u) (same_agree L s e made laid owned placed r owned' u here) (fits.bodies u))
-
-  at_t : (u : ℕ) → u ≡ t → StackFits L z (stack z t) → StackFits L z (stack z u)
-  at_t u is h = subst (λ n. StackFits L z (stack z n)) (sym is) h
+  next_split g is = top_splits (stack s t) f on_top ∙ ap (λ fs. fs ++ f ∷ []) (top_splits left g is) ∙ append_assoc (below_top left) (g ∷ []) (f ∷ [])
 
   -- a client that gets the reply, or a frame that gets nothing, since its instance has ended
   none_fits : top left ≡ None → made.stacks ≡ s'.stacks → (u : ℕ) → StackFits L z (stack z u)
-  none_fits none same u = elim (cases_eq u t) [
-    | inl is ↦ at_t u is (let here : stack z t ≡ [] = ap (λ st. frames_of (row st t)) same ∙ popped_here ∙ top_none left none in subst (StackFits L z) (sym here) tt)
-    | inr ne ↦ others_fit u (ap (λ st. frames_of (row st u)) same ∙ popped_there u ne)
-  ]
+  none_fits none same = all_fit L s e made laid owned placed r owned' t
+      (let here : stack z t ≡ [] = ap (λ st. frames_of (row st t)) same ∙ popped_here ∙ top_none left none in subst (StackFits L z) (sym here) tt)
+      (λ u ne. ap (λ st. frames_of (row st u)) same ∙ popped_there u ne) fits.bodies
 
   dead_fits : (g : StackFrame) → top left ≡ Some g → is_live s g.instance ≡ false → made ≡ s' → (u : ℕ) → StackFits L z (stack z u)
-  dead_fits g is dead same u = elim (cases_eq u t) [
-    | inl at ↦ at_t u at (
-        let here : stack z t ≡ below_top left ++ g ∷ [] = ap (λ (st : State). stack st t) same ∙ popped_here ∙ top_splits left g is in
-        let split = next_split g is in
-        let below = below_kept L s e made laid owned placed r owned' t g (below_top left) (f ∷ []) (g ∷ []) split here (subst (StackFits L s) split (fits.bodies t)) in
-        let st = stands L s laid owned placed t (below_top left) (f ∷ []) g split in
-        subst (StackFits L z) (sym here) (below g [] refl refl refl (λ lives. absurd (let up = (instances_row L s e made r).lives g.instance st.opened lives in cc), tt)))
-    | inr ne ↦ others_fit u (ap (λ (st : State). stack st u) same ∙ popped_there u ne)
-  ]
+  dead_fits g is dead same =
+      let here : stack z t ≡ below_top left ++ g ∷ [] = ap (λ (st : State). stack st t) same ∙ popped_here ∙ top_splits left g is in
+      let split = next_split g is in
+      let st = stands L s laid owned placed t (below_top left) (f ∷ []) g split in
+      all_fit L s e made laid owned placed r owned' t
+      (changed_fits L s e made laid owned placed r owned' t g g (below_top left) (f ∷ []) [] split here refl (fits.bodies t) (λ lives. absurd (let up = (instances_row L s e made r).lives g.instance st.opened lives in cc), tt))
+      (λ u ne. ap (λ (st : State). stack st u) same ∙ popped_there u ne) fits.bodies
 
   -- a live frame that gets it
   module _ (g : StackFrame) (is : top left ≡ Some g) (lives : is_live s g.instance ≡ true) (answers : AnswersLive L s' t g a made) where
@@ -94,7 +80,7 @@ module _ (L : Load) (s : State) (e : Entry) (made : State) (plans : Plans L) (ta
 
     here : stack z t ≡ below_top left ++ after ∷ []
     here =
-        let set : stack made t ≡ below_top (stack s' t) ++ after ∷ [] = ap (λ (st : State). stack st t) answers.becomes ∙ ap frames_of (row_set_same s'.stacks t (below_top (stack s' t) ++ after ∷ []) within.0 (let l : length s'.stacks ≡ length s.stacks = ap (λ xs. length xs) stacks' ∙ length_set s.stacks (t - 1) left in let b = within.1 in omega (arith, l, b))) in
+        let set : stack made t ≡ below_top (stack s' t) ++ after ∷ [] = ap (λ (st : State). stack st t) answers.becomes ∙ ap frames_of (row_set_same s'.stacks t (below_top (stack s' t) ++ after ∷ []) within.0 (let l : length s'.stacks ≡ length s.stacks = ap (λ xs. length xs) stacks' ∙ length-set s.stacks (t - 1) left in let b = within.1 in omega (arith, l, b))) in
         set ∙ ap (λ fs. below_top fs ++ after ∷ []) popped_here
 
     there : (u : ℕ) → u ≢ t → stack made u ≡ stack s u
@@ -125,13 +111,9 @@ module _ (L : Load) (s : State) (e : Entry) (made : State) (plans : Plans L) (ta
             native_on_top L made t (below_top left) g after (held_after act a held) got.0 (laid_row L s e made laid r) (laid_z L s e made laid owned placed r owned') owned' got.1 here up native got.2
 
     live_fits : (u : ℕ) → StackFits L z (stack z u)
-    live_fits u = elim (cases_eq u t) [
-      | inl at ↦ at_t u at (
-          let below = below_kept L s e made laid owned placed r owned' t g (below_top left) (f ∷ []) (after ∷ []) split here (subst (StackFits L s) split (fits.bodies t)) in
-          let same = answered_same L made g a g.body after answers.answers in
-          subst (StackFits L z) (sym here) (below after [] (ap (λ (h : StackFrame). h.target) same) (ap (λ (h : StackFrame). h.method) same) (ap (λ (h : StackFrame). h.args) same) (after_fits, tt)))
-      | inr ne ↦ others_fit u (there u ne)
-    ]
+    live_fits = all_fit L s e made laid owned placed r owned' t
+        (changed_fits L s e made laid owned placed r owned' t g after (below_top left) (f ∷ []) [] split here (answered_same L made g a g.body after answers.answers) (fits.bodies t) (after_fits, tt))
+        there fits.bodies
 
   pub replied_fits : (u : ℕ) → StackFits L z (stack z u)
   replied_fits = by_top (top left) refl (subst (λ found. AnswersTop L s' t a found made) (ap top popped_here) replies)

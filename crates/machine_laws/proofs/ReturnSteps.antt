@@ -1,6 +1,7 @@
 -- A call that ends, by its return, a refusal or its instance's end, is a row of the ledger.
 use Rattle.std.proofs.Common.{◌≡◌, ℕ, ◌+◌, ◌<◌, ◌≤◌, Bool, true, false, List, [], ◌∷◌, ◌++◌, length, Option, Some, None, refl, ap, sym, subst, subst₂, ◌∙◌, arith}
 use Rattle.std.specs.List.{filter_map}
+use Rattle.std.proofs.lemmas.Bool.{false_from_ne_true}
 use Rattle.rl_defs.specs.declared.values.Value.{Value}
 use Rattle.rl_defs.specs.declared.tables.MethodRow.{MethodRow}
 use Rattle.rl_defs.specs.declared.frame.Action.{Action}
@@ -31,18 +32,18 @@ use Rattle.machine_laws.specs.Plans.{Plans}
 use Rattle.machine_laws.specs.Registers.{HasTables, own, received}
 use Rattle.machine_laws.specs.Fitting.{BodyFits, CallFits, CallsFit, StackFits, Fitting}
 use Rattle.machine_laws.proofs.Stacks.{top_splits}
-use Rattle.machine_laws.proofs.Tops.{under, bottom, client_within, runs_frame}
+use Rattle.machine_laws.proofs.Tops.{under, bottom}
 use Rattle.machine_laws.proofs.Acting.{ActsAs}
-use Rattle.machine_laws.proofs.Present.{sum_least, lent_counted}
+use Rattle.machine_laws.proofs.Present.{lent_counted}
 use Rattle.machine_laws.proofs.Replying.{Replied, client_replied, frame_replied, dead_replied}
 use Rattle.machine_laws.proofs.StackFits.{fits_split, calls_back}
 use Rattle.machine_laws.proofs.Owners.{unlent as top_unlent}
 use Rattle.machine_laws.proofs.OwnActs.{Pays, returns_own}
-use Rattle.machine_laws.proofs.OwnEntries.{has_counted}
 use Rattle.machine_laws.proofs.CodeDoing.{NotTrap, body_fits, code_does}
 use Rattle.machine_laws.proofs.OwnDoing.{native_kept}
-use Rattle.machine_laws.proofs.Unlent.{not_has}
 use Rattle.machine_laws.proofs.WaitingAnswers.{IsReply, ReplySuits, replied_own}
+use Rattle.machine_laws.proofs.Sums.{sum_least}
+use Rattle.machine_laws.proofs.Counts.{has_counted}
 
 ret_no_trap : (results : List Value) → NotTrap (action.Ret results)
 ret_no_trap results c e = cc
@@ -92,7 +93,7 @@ module _ (L : Load) (s : State) (plans : Plans L) (tables : HasTables L.tables) 
 
   -- what a running frame has of its own is lent to no frame
   pub own_unlent : (t o : ℕ) (f g : StackFrame) (below above : List StackFrame) → Runs L (ledger_of L s) t (frame_entry f) (under s t) → 0 < count o (own_of f) → stack s t ≡ below ++ g ∷ above → has g.lent o ≡ false
-  own_unlent t o f g below above runs some here = not_has g.lent o (λ lent. (
+  own_unlent t o f g below above runs some here = false_from_ne_true (has g.lent o) (λ lent. (
       let none = top_unlent L (ledger_of L s) owned t (frame_entry f) (under s t) runs o some in
       let counted = has_counted g.lent o lent in
       let in_stack : count o g.lent ≤ Rattle.machine_laws.specs.Ledger.lent_in o (Rattle.machine_laws.proofs.Tops.entries t (stack s t) (row s.threads t)) = subst (λ fs. count o g.lent ≤ Rattle.machine_laws.specs.Ledger.lent_in o (Rattle.machine_laws.proofs.Tops.entries t fs (row s.threads t))) (sym here) (lent_counted o below above g (bottom t (row s.threads t) ∷ [])) in

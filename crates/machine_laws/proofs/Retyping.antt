@@ -1,7 +1,8 @@
 -- A frame that doesn't change fits on, where the objects that it has are of the same structs.
-use Rattle.std.proofs.Common.{◌≡◌, ℕ, zero, suc, ◌==◌, Bool, true, false, ◌||◌, List, [], ◌∷◌, ◌++◌, length, Option, Some, None, slice_get, refl, ap, ap₂, sym, subst, ◌∙◌, arith, inl, inr}
+use Rattle.std.proofs.Common.{◌≡◌, ℕ, zero, suc, ◌==◌, Bool, true, false, ◌||◌, List, [], ◌∷◌, ◌++◌, length, Option, Some, None, refl, ap, ap₂, sym, subst, ◌∙◌, arith, inl, inr}
 use Rattle.std.specs.List.{filter_map, list_all, slice_index_or}
-use Rattle.std.proofs.lemmas.Bool.{cases_Bool, eq-eqb}
+use Rattle.std.proofs.lemmas.Bool.{cases_Bool, eq-eqb, and_parts, or_left}
+use Rattle.std.proofs.lemmas.Option.{slice_get_past}
 use Rattle.rl_defs.specs.declared.values.Value.{Value}
 use Rattle.rl_defs.specs.declared.values.Value.TheVariants as value
 use Rattle.rl_defs.specs.declared.values.Arg.{Arg}
@@ -32,8 +33,8 @@ use Rattle.rl_defs.specs.Machine.Frames.{instr_at}
 use Rattle.rl_defs.specs.Machine.Sound.{object_held}
 use Rattle.machine_laws.specs.Registers.{Parted, Retyped}
 use Rattle.machine_laws.specs.Fitting.{CodeRuns, CodeWaits, BodyFits}
-use Rattle.machine_laws.proofs.OwnEntries.{stand_retyped, waiting_retyped, counted_has, has_counted}
-use Rattle.machine_laws.proofs.CallerRanks.{and_true}
+use Rattle.machine_laws.proofs.OwnEntries.{stand_retyped, waiting_retyped}
+use Rattle.machine_laws.proofs.Counts.{has_counted, counted_has}
 
 -- the objects that a body has, of its own or lent
 abbrev pub body_objects : FrameBody Action → List ℕ
@@ -65,12 +66,8 @@ register_has (Some (value.Obj p) ∷ regs) (suc r) o is = let deeper = register_
 pub kinds_by_struct : (L : Load) (s : State) (o : ℕ) → kinds_of L (object_of s o) ≡ cells_of L.tables ((types_of L s).struct_of o)
 kinds_by_struct L s o = go (object_of s o)
   where
-    past : {A : Type 0} (xs : List A) → slice_get xs (length xs) ≡ None
-    past [] = refl
-    past (x ∷ xs) = past xs
-
     go : (x : Option Object) → kinds_of L x ≡ cells_of L.tables (struct_or_none L x)
-    go None = rw (past L.tables.structs) refl
+    go None = rw (slice_get_past L.tables.structs (length L.tables.structs) (omega arith)) refl
     go (Some x) = refl
 
 -- arguments and values that suit, suit on
@@ -107,7 +104,7 @@ lent_first (arg.Num n) args o is = absurd cc
 lent_first (arg.Moved p) args o is = absurd cc
 lent_first (arg.Cap x) args o is = absurd cc
 
-lent_later : (a : Arg) (args : List Arg) (o : ℕ) → has (lent_of args) o ≡ true → has (lent_of (a ∷ args)) o ≡ true
+pub lent_later : (a : Arg) (args : List Arg) (o : ℕ) → has (lent_of args) o ≡ true → has (lent_of (a ∷ args)) o ≡ true
 lent_later (arg.Lent p) args o is = elim (cases_Bool (p == o)) [ inl e ↦ rw e refl | inr e ↦ rw e is ]
 lent_later (arg.Num n) args o is = is
 lent_later (arg.Moved p) args o is = is
@@ -117,7 +114,7 @@ pub args_same : (types other : Typing) (kinds : List Kind) (args : List Arg) →
     → ((x : ℕ) → other.trait_of x ≡ types.trait_of x) → args_suit types kinds args ≡ true → args_suit other kinds args ≡ true
 args_same types other [] [] moved lent targets is = refl
 args_same types other (k ∷ kinds) (a ∷ args) moved lent targets is =
-    let parts = and_true (arg_suits types k a) (args_suit types kinds args) is in
+    let parts = and_parts (arg_suits types k a) (args_suit types kinds args) is in
     rw (
       arg_same types other k a (λ o h. moved o (moved_first a args o h)) (λ o h. lent o (lent_first a args o h)) targets parts.0,
       args_same types other kinds args (λ o h. moved o (moved_later a args o h)) (λ o h. lent o (lent_later a args o h)) targets parts.1,
@@ -125,14 +122,11 @@ args_same types other (k ∷ kinds) (a ∷ args) moved lent targets is =
 args_same types other [] (a ∷ args) moved lent targets is = absurd cc
 args_same types other (k ∷ kinds) [] moved lent targets is = absurd cc
 
-value_same : (types other : Typing) (k : Kind) (v : Value) → ((o : ℕ) → v ≡ value.Obj o → other.struct_of o ≡ types.struct_of o) → ((x : ℕ) → other.trait_of x ≡ types.trait_of x) → value_suits types k v ≡ true → value_suits other k v ≡ true
+pub value_same : (types other : Typing) (k : Kind) (v : Value) → ((o : ℕ) → v ≡ value.Obj o → other.struct_of o ≡ types.struct_of o) → ((x : ℕ) → other.trait_of x ≡ types.trait_of x) → value_suits types k v ≡ true → value_suits other k v ≡ true
 value_same types other (kind.Num w) (value.Num n) objects targets is = is
 value_same types other (kind.Own ty) (value.Obj o) objects targets is = rw (objects o refl) is
 value_same types other (kind.Cap t) (value.Cap x) objects targets is = rw (targets x) is
 value_same types other k v objects targets is = absurd cc
-
-pub one_value_same : (types other : Typing) (k : Kind) (v : Value) → ((o : ℕ) → v ≡ value.Obj o → other.struct_of o ≡ types.struct_of o) → ((x : ℕ) → other.trait_of x ≡ types.trait_of x) → value_suits types k v ≡ true → value_suits other k v ≡ true
-one_value_same types other k v objects targets is = value_same types other k v objects targets is
 
 result_first : (v : Value) (values : List Value) (o : ℕ) → v ≡ value.Obj o → has (filter_map object_in (v ∷ values)) o ≡ true
 result_first v values o is = rw is (let e = eq-eqb o o refl in rw e refl)
@@ -146,7 +140,7 @@ pub values_same : (types other : Typing) (kinds : List Kind) (values : List Valu
     → values_suit types kinds values ≡ true → values_suit other kinds values ≡ true
 values_same types other [] [] objects targets is = refl
 values_same types other (k ∷ kinds) (v ∷ values) objects targets is =
-    let parts = and_true (value_suits types k v) (values_suit types kinds values) is in
+    let parts = and_parts (value_suits types k v) (values_suit types kinds values) is in
     rw (
       value_same types other k v (λ o h. objects o (result_first v values o h)) targets parts.0,
       values_same types other kinds values (λ o h. objects o (result_later v values o h)) targets parts.1,
@@ -154,18 +148,10 @@ values_same types other (k ∷ kinds) (v ∷ values) objects targets is =
 values_same types other [] (v ∷ values) objects targets is = absurd cc
 values_same types other (k ∷ kinds) [] objects targets is = absurd cc
 
-or_first : (a b : Bool) → a ≡ true → (a || b) ≡ true
-or_first true b e = refl
-or_first false b e = absurd cc
-
-or_second : (a b : Bool) → b ≡ true → (a || b) ≡ true
-or_second true b e = refl
-or_second false b e = e
-
 all_has : (xs os : List ℕ) → list_all (has xs) os ≡ true → (o : ℕ) → has os o ≡ true → has xs o ≡ true
 all_has xs [] is o h = absurd cc
 all_has xs (p ∷ os) is o h =
-    let parts = and_true (has xs p) (list_all (has xs) os) is in
+    let parts = and_parts (has xs p) (list_all (has xs) os) is in
     elim (cases_Bool (p == o)) [
       | inl e ↦ let same = Rattle.std.proofs.lemmas.Bool.eqb-true p o e in subst (λ n. has xs n ≡ true) same parts.0
       | inr e ↦ all_has xs os parts.1 o (let h' : has os o ≡ true = rw e at h in h')
@@ -174,7 +160,7 @@ all_has xs (p ∷ os) is o h =
 all_either : (xs ys os : List ℕ) → list_all (λ o. has xs o || has ys o) os ≡ true → (o : ℕ) → has os o ≡ true → (has xs o || has ys o) ≡ true
 all_either xs ys [] is o h = absurd cc
 all_either xs ys (p ∷ os) is o h =
-    let parts = and_true (has xs p || has ys p) (list_all (λ o. has xs o || has ys o) os) is in
+    let parts = and_parts (has xs p || has ys p) (list_all (λ o. has xs o || has ys o) os) is in
     elim (cases_Bool (p == o)) [
       | inl e ↦ let same = Rattle.std.proofs.lemmas.Bool.eqb-true p o e in subst (λ n. (has xs n || has ys n) ≡ true) same parts.0
       | inr e ↦ all_either xs ys os parts.1 o (let h' : has os o ≡ true = rw e at h in h')
@@ -183,14 +169,11 @@ all_either xs ys (p ∷ os) is o h =
 -- what a native body may choose, it may choose on
 pub choice_kept : (L : Load) (s z : State) (f : StackFrame) (held : List ℕ) (act : Action) → ((o : ℕ) → (has held o || has f.lent o) ≡ true → (types_of L z).struct_of o ≡ (types_of L s).struct_of o) → instance_load z f.instance ≡ instance_load s f.instance → length (words z f.instance) ≡ length (words s f.instance)
     → CanChoose L s f held act → CanChoose L z f held act
-choice_kept L s z f held (action.Trap c) same load' words' can = can
-choice_kept L s z f held (action.New ty) same load' words' can = can
-choice_kept L s z f held (action.Drop o) same load' words' can = can
 choice_kept L s z f held (action.Set o k values) same load' words' can = record {
   holds = can.holds;
   some = can.some;
   suits =
-      let kinds : kinds_of L (object_of z o) ≡ kinds_of L (object_of s o) = kinds_by_struct L z o ∙ ap (cells_of L.tables) (same o (or_first (has held o) (has f.lent o) can.holds)) ∙ sym (kinds_by_struct L s o) in
+      let kinds : kinds_of L (object_of z o) ≡ kinds_of L (object_of s o) = kinds_by_struct L z o ∙ ap (cells_of L.tables) (same o (or_left (has held o) (has f.lent o) can.holds)) ∙ sym (kinds_by_struct L s o) in
       rw kinds can.suits;
 }
 choice_kept L s z f held (action.Wput k v) same load' words' can = record { inside = rw words' can.inside; width = can.width }
@@ -200,7 +183,7 @@ choice_kept L s z f held (action.Call x m args) same load' words' can = record {
   method = can.method;
   row = can.row;
   suits = args_same (types_of L s) (types_of L z) can.method.params args
-      (λ o h. same o (or_first (has held o) (has f.lent o) (all_has held (moved_of args) can.moves o h)))
+      (λ o h. same o (or_left (has held o) (has f.lent o) (all_has held (moved_of args) can.moves o h)))
       (λ o h. same o (all_either held f.lent (lent_of args) can.lends o h))
       (λ x. refl) can.suits;
   moves = can.moves;
@@ -213,16 +196,11 @@ choice_kept L s z f held (action.Ret results) same load' words' can = record {
   method = can.method;
   row = can.row;
   suits = values_same (types_of L s) (types_of L z) can.method.results results
-      (λ o h. same o (or_first (has held o) (has f.lent o) (counted_has held o (let a = has_counted (filter_map object_in results) o h in let b = can.all o in omega (arith, a, b)))))
+      (λ o h. same o (or_left (has held o) (has f.lent o) (counted_has held o (let a = has_counted (filter_map object_in results) o h in let b = can.all o in omega (arith, a, b)))))
       (λ x. refl) can.suits;
   all = can.all;
 }
-choice_kept L s z f held (action.Take k) same load' words' can = can
-choice_kept L s z f held (action.Put k o) same load' words' can = can
-choice_kept L s z f held (action.DevGet o b) same load' words' can = can
-choice_kept L s z f held (action.DevPut b o) same load' words' can = can
-choice_kept L s z f held (action.Hang o k v) same load' words' can = can
-choice_kept L s z f held (action.Unhang o k) same load' words' can = can
+choice_kept L s z f held other same load' words' can = can
 
 module _ (L : Load) (s z : State) (f : StackFrame) (agrees : Agrees L s z f) where
   domain_same : domain_of_instance L z f.instance ≡ domain_of_instance L s f.instance
@@ -230,7 +208,7 @@ module _ (L : Load) (s z : State) (f : StackFrame) (agrees : Agrees L s z f) whe
 
   retyped : (at : ℕ) (regs : List (Option Value)) → f.body ≡ body.Code at regs → Retyped (types_of L s) (types_of L z) regs
   retyped at regs is = record {
-    objects = λ r o h. agrees.structs o (or_first (has (body_objects f.body) o) (has f.lent o) (rw is (register_has regs r o h)));
+    objects = λ r o h. agrees.structs o (or_left (has (body_objects f.body) o) (has f.lent o) (rw is (register_has regs r o h)));
     targets = λ x. refl;
   }
 

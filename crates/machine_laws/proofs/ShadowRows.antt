@@ -1,6 +1,7 @@
 -- Shadows stand at the start and behind each row.
 use Rattle.std.proofs.Common.{◌≡◌, ◌≢◌, ℕ, zero, suc, ◌+◌, ◌-◌, ◌<◌, ◌≤◌, ◌==◌, cond, List, [], ◌∷◌, ◌++◌, length, map, Some, None, slice_get, slice_set, refl, ap, sym, subst, ◌∙◌, arith, inl, inr}
 use Rattle.std.proofs.lemmas.Bool.{cases_eq, eq-eqb, ne_eqb}
+use Rattle.std.proofs.lemmas.Option.{slice_get_past}
 use Rattle.rl_defs.specs.declared.entry.Entry.{Entry}
 use Rattle.rl_defs.specs.declared.entry.Entry.TheVariants as entry
 use Rattle.rl_defs.specs.declared.load.Load.{Load}
@@ -15,7 +16,7 @@ use Rattle.rl_defs.specs.Machine.Steps.{Row}
 use Rattle.rl_defs.specs.Machine.Sound.{ShadowsStand, instances_of}
 use Rattle.machine_laws.specs.Shape.{Laid}
 use Rattle.machine_laws.specs.Plans.{Plans}
-use Rattle.machine_laws.proofs.Rows.{row_within, row_set_same, row_set_other}
+use Rattle.machine_laws.proofs.Rows.{row_within, row_set_same, row_set_other, item_there}
 use Rattle.machine_laws.proofs.ReloadRow.{row_append_last, row_append_other}
 use Rattle.machine_laws.proofs.CodeDoing.{load_there}
 use Rattle.machine_laws.proofs.ShadowsKept.{same_row, still_stand}
@@ -28,25 +29,14 @@ counted_more : (k : ℕ) (xs : List Instance) (y : Instance) → instances_of k 
 counted_more k [] y = omega arith
 counted_more k (x ∷ xs) y = let more = counted_more k xs y in omega (arith, more)
 
-past_list : {A : Type 0} (xs : List A) (n : ℕ) → length xs ≤ n → slice_get xs n ≡ None
-past_list [] zero le = refl
-past_list [] (suc n) le = refl
-past_list (x ∷ xs) zero le = absurd (omega (arith, le))
-past_list (x ∷ xs) (suc n) le = past_list xs n (omega (arith, le))
-
 -- the load of a shadow's target is the shadow's
 shadow_load : (L : Load) (x : ℕ) (shadow : ShadowRow) → 0 < x - length L.loads → row L.shadows (x - length L.loads) ≡ Some shadow → load_of_target L x ≡ shadow.load
 shadow_load L zero shadow some is = absurd (omega (arith, some))
 shadow_load L (suc k) shadow some is =
-    let past : slice_get L.loads k ≡ None = past_list L.loads k (omega (arith, some)) in
+    let past : slice_get L.loads k ≡ None = slice_get_past L.loads k (omega (arith, some)) in
     let place : suc k - length L.loads ≡ suc (k - length L.loads) = omega (arith, some) in
     let here : slice_get L.shadows (k - length L.loads) ≡ Some shadow = rw place at is in
     rw (past, here) refl
-
-item_there : {A : Type 0} (xs : List A) (n : ℕ) → n < length xs → (y : A) × (slice_get xs n ≡ Some y)
-item_there [] n lt = absurd (omega (arith, lt))
-item_there (y ∷ ys) zero lt = (y, refl)
-item_there (y ∷ ys) (suc n) lt = item_there ys n (omega (arith, lt))
 
 row_there : {A : Type 0} (xs : List A) (n : ℕ) → 0 < n → n ≤ length xs → (y : A) × (row xs n ≡ Some y)
 row_there xs zero pos le = absurd (omega arith)
@@ -55,6 +45,9 @@ row_there xs (suc n) pos le = item_there xs n (omega (arith, le))
 slice_row : {A : Type 0} (xs : List A) (k : ℕ) (y : A) → row xs k ≡ Some y → slice_get xs (k - 1) ≡ Some y
 slice_row xs zero y e = absurd cc
 slice_row xs (suc k) y e = let same : k ≡ suc k - 1 = omega arith in subst (λ n. slice_get xs n ≡ Some y) same e
+
+loads_within : (L : Load) → Plans L → (k : ℕ) (y : ShadowRow) → row L.shadows k ≡ Some y → (0 < y.load) × (y.load ≤ length L.loads)
+loads_within L plans k y is = plans.targets.shadows (k - 1) y (slice_row L.shadows k y is)
 
 module _ (L : Load) (s : State) (t x i left : ℕ) (z : State) (plans : Plans L) (laid : Laid L s) (stand : ShadowsStand L s) (r : Reloads L s t x i left z) where
   behind : (0 < x - length L.loads) × (x - length L.loads ≤ length s.shadows)
@@ -69,11 +62,8 @@ module _ (L : Load) (s : State) (t x i left : ℕ) (z : State) (plans : Plans L)
   load_is : load_of_target L x ≡ own.0.load
   load_is = shadow_load L x own.0 behind.0 own.1
 
-  loads_within : (k : ℕ) (y : ShadowRow) → row L.shadows k ≡ Some y → (0 < y.load) × (y.load ≤ length L.loads)
-  loads_within k y is = plans.targets.shadows (k - 1) y (slice_row L.shadows k y is)
-
   found : (l : LoadRow) × (load_row L (load_of_target L x) ≡ Some l)
-  found = let w = loads_within (x - length L.loads) own.0 own.1 in load_there L (load_of_target L x) (rw load_is w.0) (rw load_is w.1)
+  found = let w = loads_within L plans (x - length L.loads) own.0 own.1 in load_there L (load_of_target L x) (rw load_is w.0) (rw load_is w.1)
 
   abbrev fresh : Instance
   fresh = first_instance L (load_of_target L x) found.0
@@ -117,7 +107,7 @@ module _ (L : Load) (s : State) (t x i left : ℕ) (z : State) (plans : Plans L)
         | inl e ↦ (let h = here_now shadow y (subst (λ n. row z.shadows n ≡ Some shadow) e is) (subst (λ n. row L.shadows n ≡ Some y) e there) in ap (λ (w : Shadow). instance_load z w.current) h.0 ∙ load_of_new ∙ sym (ap (λ (w : ShadowRow). w.load) h.1))
         | inr ne ↦ (
             let old = stand.current k shadow y (there_still k shadow ne is) there in
-            let some = (loads_within k y there).0 in
+            let some = (loads_within L plans k y there).0 in
             let opened : shadow.current ≢ length s.instances + 1 = λ e. (
             let none : row s.instances shadow.current ≡ None = rw e (Rattle.machine_laws.proofs.Told.row_past s.instances (length s.instances + 1) (omega arith)) in
             let zero' : instance_load s shadow.current ≡ 0 = ap load_of_instance none in
@@ -149,27 +139,8 @@ shadows_stand L s e made plans laid stand r = record { current = (behind e r).cu
   where
     behind : (e : Entry) → Row L s e made → ShadowsStand L made
     behind (entry.Reload t x i left) r' = reload_stands L s t x i left made plans laid stand r'
-    behind (entry.Call t c x i m args) r' = still_stand L s made (same_row L s (entry.Call t c x i m args) made (λ n. n) r') stand
-    behind (entry.Refuse t c why x m args) r' = still_stand L s made (same_row L s (entry.Refuse t c why x m args) made (λ n. n) r') stand
-    behind (entry.Ret t c results) r' = still_stand L s made (same_row L s (entry.Ret t c results) made (λ n. n) r') stand
-    behind (entry.Unwound t c) r' = still_stand L s made (same_row L s (entry.Unwound t c) made (λ n. n) r') stand
-    behind (entry.Again t c x i) r' = still_stand L s made (same_row L s (entry.Again t c x i) made (λ n. n) r') stand
-    behind (entry.Trap t i cause) r' = still_stand L s made (same_row L s (entry.Trap t i cause) made (λ n. n) r') stand
-    behind (entry.Kill t i) r' = still_stand L s made (same_row L s (entry.Kill t i) made (λ n. n) r') stand
-    behind (entry.New t w o ty values) r' = still_stand L s made (same_row L s (entry.New t w o ty values) made (λ n. n) r') stand
-    behind (entry.Drop t o) r' = still_stand L s made (same_row L s (entry.Drop t o) made (λ n. n) r') stand
-    behind (entry.Set t o k values) r' = still_stand L s made (same_row L s (entry.Set t o k values) made (λ n. n) r') stand
-    behind (entry.Wput t i k v) r' = still_stand L s made (same_row L s (entry.Wput t i k v) made (λ n. n) r') stand
-    behind (entry.Take t i slot o) r' = still_stand L s made (same_row L s (entry.Take t i slot o) made (λ n. n) r') stand
-    behind (entry.Put t i slot o) r' = still_stand L s made (same_row L s (entry.Put t i slot o) made (λ n. n) r') stand
-    behind (entry.DevGet t o b) r' = still_stand L s made (same_row L s (entry.DevGet t o b) made (λ n. n) r') stand
-    behind (entry.DevPut t b o) r' = still_stand L s made (same_row L s (entry.DevPut t b o) made (λ n. n) r') stand
-    behind (entry.Hang t o k v) r' = still_stand L s made (same_row L s (entry.Hang t o k v) made (λ n. n) r') stand
-    behind (entry.Unhang t o k v) r' = still_stand L s made (same_row L s (entry.Unhang t o k v) made (λ n. n) r') stand
-    behind (entry.Show t o values) r' = still_stand L s made (same_row L s (entry.Show t o values) made (λ n. n) r') stand
-    behind (entry.Skip t number) r' = still_stand L s made (same_row L s (entry.Skip t number) made (λ n. n) r') stand
-    behind (entry.Done t) r' = still_stand L s made (same_row L s (entry.Done t) made (λ n. n) r') stand
     behind (entry.Free o) r' = absurd r'
+    behind other r' = still_stand L s made (same_row L s other made (λ n. n) r') stand
 
 -- the first instances are one of each load
 first_load : (L : Load) (k : ℕ) (ls : List LoadRow) (n : ℕ) → n < length ls → load_of_instance (slice_get (first_instances L k ls) n) ≡ k + n
@@ -210,19 +181,16 @@ shadows_start L plans = record { current = current'; left = left' }
     is_first zero shadow x a b = absurd cc
     is_first (suc k) shadow x a b = first_shadows L.shadows k x shadow a b
 
-    within : (k : ℕ) (x : ShadowRow) → row L.shadows k ≡ Some x → (0 < x.load) × (x.load ≤ length L.loads)
-    within k x is = plans.targets.shadows (k - 1) x (slice_row L.shadows k x is)
-
     load_at : (n : ℕ) → 0 < n → n ≤ length L.loads → instance_load (start L) n ≡ n
     load_at zero pos le = absurd (omega arith)
     load_at (suc n) pos le = first_load L 1 L.loads n (omega (arith, le)) ∙ omega arith
 
     current' : (k : ℕ) (shadow : Shadow) (x : ShadowRow) → row (start L).shadows k ≡ Some shadow → row L.shadows k ≡ Some x → instance_load (start L) shadow.current ≡ x.load
-    current' k shadow x a b = let w = within k x b in ap (λ (y : Shadow). instance_load (start L) y.current) (is_first k shadow x a b) ∙ load_at x.load w.0 w.1
+    current' k shadow x a b = let w = loads_within L plans k x b in ap (λ (y : Shadow). instance_load (start L) y.current) (is_first k shadow x a b) ∙ load_at x.load w.0 w.1
 
     left' : (k : ℕ) (shadow : Shadow) (x : ShadowRow) → row (start L).shadows k ≡ Some shadow → row L.shadows k ≡ Some x → shadow.left + instances_of x.load (start L).instances ≡ x.restarts + 1
     left' k shadow x a b =
-        let w = within k x b in
+        let w = loads_within L plans k x b in
         let left'' : shadow.left ≡ x.restarts = ap (λ (y : Shadow). y.left) (is_first k shadow x a b) in
         let one = first_count L 1 x.load L.loads w.0 (let le = w.1 in omega (arith, le)) in
         omega (arith, left'', one)

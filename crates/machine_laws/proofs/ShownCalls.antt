@@ -18,8 +18,8 @@ use Rattle.rl_defs.specs.Machine.Answered.{ClosesNewest, IsGoneForGood, BreaksOr
 use Rattle.machine_laws.specs.Ledger.{LedgerFrame, Ledger, alive}
 use Rattle.machine_laws.specs.LedgerRows.{Runs, IsDead, IsOutranked, IsRefused, Row}
 use Rattle.machine_laws.specs.LedgerSound.{Owned, Grounded, Placed, IsPlan}
-use Rattle.machine_laws.proofs.Calls.{inside_of, call_of, calls_of, CallsAgree}
-use Rattle.machine_laws.proofs.PlaceRows.{ground, live_some}
+use Rattle.machine_laws.proofs.Calls.{inside_of, call_of, calls_of, CallsAgree, ground}
+use Rattle.machine_laws.proofs.PlaceRows.{live_some}
 use Rattle.machine_laws.proofs.HeapRows.{HeapAgrees, acts_for}
 
 pub length_calls : (f : LedgerFrame) (fs : List LedgerFrame) → length (calls_of (f ∷ fs)) ≡ length fs
@@ -93,36 +93,36 @@ module _ (L : Load) (us : List Turn) (s : Ledger) (own : Owned L s) (c : CallsAg
 
   party_live : (t : ℕ) (f g : LedgerFrame) (fs : List LedgerFrame) → Runs L s t f (g ∷ fs) → has_ended us (inside_of f.party) ≡ false
   party_live t f g fs runs =
-      let gr = ground L s own p t f (g ∷ fs) runs.some runs.within runs.stack in
+      let gr = ground L s p t f (g ∷ fs) runs.some runs.within runs.stack in
       let e = gr.0.1 in
       rw e (ended_live gr.0.0 gr.0.2 gr.0.3 (let l : alive s.live (owner.Instance gr.0.0) ≡ true = rw e at runs.lives in l))
 
   party_dead : (t : ℕ) (f g : LedgerFrame) (fs : List LedgerFrame) → IsDead L s t f (g ∷ fs) → has_ended us (inside_of f.party) ≡ true
   party_dead t f g fs dead =
-      let gr = ground L s own p t f (g ∷ fs) dead.some dead.within dead.stack in
+      let gr = ground L s p t f (g ∷ fs) dead.some dead.within dead.stack in
       let e = gr.0.1 in
       rw e (ended_dead gr.0.0 gr.0.2 gr.0.3 (let l : alive s.live (owner.Instance gr.0.0) ≡ false = rw e at dead.dead in l))
 
   -- the target of a frame above the client's own has a load
   target_load : (t : ℕ) (f g : LedgerFrame) (fs : List LedgerFrame) → 0 < t → t ≤ length L.clients → s.stack t ≡ f ∷ g ∷ fs → 0 < load_of_target L f.target
   target_load t f g fs pos le is =
-      let gr = ground L s own p t f (g ∷ fs) pos le is in
+      let gr = ground L s p t f (g ∷ fs) pos le is in
       let a = p.some_load gr.0.0 gr.0.2 gr.0.3 in
       let e = gr.0.4 in
       omega arith
 
   again_newest : (t n : ℕ) (f : LedgerFrame) (fs : List LedgerFrame) → IsDead L s t f fs → n ≡ f.call → (Holds : OpenCall → Type 0) → (has_ended us (inside_of f.party) ≡ true → Holds (call_of f)) → ClosesNewest us t n Holds
-  again_newest t n f [] dead number Holds holds = absurd (let e = (ground L s own p t f [] dead.some dead.within dead.stack).0 in let l : alive s.live (owner.Client t) ≡ false = rw e at dead.dead in cc (l))
+  again_newest t n f [] dead number Holds holds = absurd (let e = (ground L s p t f [] dead.some dead.within dead.stack).0 in let l : alive s.live (owner.Client t) ≡ false = rw e at dead.dead in cc (l))
   again_newest t n f (g ∷ fs) dead number Holds holds = newest t n f g fs Holds dead.some dead.within dead.stack number (holds (party_dead t f g fs dead))
 
   -- an instance that acts hasn't ended
   pub actor_live : (t : ℕ) (f : LedgerFrame) (fs : List LedgerFrame) (i : ℕ) → Runs L s t f fs → f.party ≡ owner.Instance i → has_ended us i ≡ false
-  actor_live t f [] i runs is = absurd (let e = (ground L s own p t f [] runs.some runs.within runs.stack).0 in cc (e, is))
+  actor_live t f [] i runs is = absurd (let e = (ground L s p t f [] runs.some runs.within runs.stack).0 in cc (e, is))
   actor_live t f (g ∷ fs) i runs is = let r : has_ended us (inside_of (owner.Instance i)) ≡ false = rw is at (party_live t f g fs runs) in r
 
   breaks_order : (t x : ℕ) (f : LedgerFrame) (fs : List LedgerFrame) → Runs L s t f fs → is_serial L (load_of_target L x) ≡ true → IsOutranked L s (load_of_target L x) (f ∷ fs) → BreaksOrder L us t x
   breaks_order t x f fs runs serial r =
-      let g : Grounded L s.loads s.next_instance s.next_call t (r.over ++ r.frame ∷ r.under) = subst (Grounded L s.loads s.next_instance s.next_call t) r.among (ground L s own p t f fs runs.some runs.within runs.stack) in
+      let g : Grounded L s.loads s.next_instance s.next_call t (r.over ++ r.frame ∷ r.under) = subst (Grounded L s.loads s.next_instance s.next_call t) r.among (ground L s p t f fs runs.some runs.within runs.stack) in
       let q = parted L s.loads s.next_instance s.next_call t r.inside r.frame r.over r.under g r.party in
       record {
         serial = serial;

@@ -19,12 +19,12 @@ use Rattle.machine_laws.specs.Ledger.{LedgerFrame, Ledger, alive, lent_in, loans
 use Rattle.machine_laws.specs.LedgerRows.{Runs, Exchanged, MayPass, Row}
 use Rattle.machine_laws.specs.LedgerSound.{in_slots, own_in, Owned, Placed}
 use Rattle.machine_laws.proofs.Sums.{sum_least, sum_some}
-use Rattle.machine_laws.proofs.Counts.{has_count, count_has, loses_one}
+use Rattle.machine_laws.proofs.Counts.{has_counted, counted_has, loses_one}
 use Rattle.machine_laws.proofs.Owners.{is_of_root, is_of_le, own_below, covered_below, top_root, unlent}
 use Rattle.machine_laws.proofs.OneStack.{lent_loans}
 use Rattle.machine_laws.proofs.OwnRows.{at_most_once}
-use Rattle.machine_laws.proofs.Calls.{call_of, calls_of, CallsAgree}
-use Rattle.machine_laws.proofs.PlaceRows.{ground, made_before}
+use Rattle.machine_laws.proofs.Calls.{call_of, calls_of, CallsAgree, ground}
+use Rattle.machine_laws.proofs.PlaceRows.{made_before}
 use Rattle.machine_laws.proofs.HeapRows.{HeapAgrees, acts_for}
 use Rattle.machine_laws.proofs.CellRows.{CellsAgree}
 use Rattle.machine_laws.proofs.Swept.{loans_same}
@@ -84,14 +84,14 @@ module _ (L : Load) (us : List Turn) (s : Ledger) (own : Owned L s) (c : CallsAg
 
   -- what was lent to the top frame was lent to the newest open call
   lent_to : (t : ℕ) (f : LedgerFrame) (fs : List LedgerFrame) → Runs L s t f fs → (o : ℕ) → 0 < count o f.lent → IsLentTo us t o
-  lent_to t f [] runs o some = absurd (let e = (ground L s own p t f [] runs.some runs.within runs.stack).1 in let z : 0 < count o [] = rw e at some in omega arith)
+  lent_to t f [] runs o some = absurd (let e = (ground L s p t f [] runs.some runs.within runs.stack).1 in let z : 0 < count o [] = rw e at some in omega arith)
   lent_to t f (g ∷ fs) runs o some =
-      let e = (ground L s own p t f (g ∷ fs) runs.some runs.within runs.stack).1 in
+      let e = (ground L s p t f (g ∷ fs) runs.some runs.within runs.stack).1 in
       record {
         call = call_of f;
         others = calls_of (g ∷ fs);
         open_now = c.opens t runs.some runs.within ∙ ap calls_of runs.stack;
-        lent = count_has o (lent_of f.args) (rw e at some);
+        lent = counted_has (lent_of f.args) o (rw e at some);
       }
 
   lent_root : (t : ℕ) (f : LedgerFrame) (fs : List LedgerFrame) → Runs L s t f fs → (o : ℕ) → 0 < count o f.lent → (w : Owner) × (s.seat o ≡ Some (Root w))
@@ -127,13 +127,13 @@ module _ (L : Load) (us : List Turn) (s : Ledger) (own : Owned L s) (c : CallsAg
 
   -- what a call moves and lends
   moves : (args : List Arg) (f : LedgerFrame) (left : List ℕ) → MayPass f args left → (o : ℕ) → has (moved_of args) o ≡ true → 0 < count o f.own
-  moves args f left passes o is = let some = has_count o (moved_of args) is in let a = passes.moved o in omega arith
+  moves args f left passes o is = let some = has_counted (moved_of args) o is in let a = passes.moved o in omega arith
 
   lends : (args : List Arg) (f : LedgerFrame) (left : List ℕ) → MayPass f args left → (o : ℕ) → has (lent_of args) o ≡ true → (0 < count o f.own) ⊎ (0 < count o f.lent)
-  lends args f left passes o is = elim (passes.lent o (has_count o (lent_of args) is)) [ inl mine ↦ inl (let a = passes.moved o in omega arith) | inr lent ↦ inr lent ]
+  lends args f left passes o is = elim (passes.lent o (has_counted (lent_of args) o is)) [ inl mine ↦ inl (let a = passes.moved o in omega arith) | inr lent ↦ inr lent ]
 
   returns : (f : LedgerFrame) (results : List Value) → Exchanged f.own (objects_in results) [] [] → (o : ℕ) → has (objects_in results) o ≡ true → 0 < count o f.own
-  returns f results all o is = let some = has_count o (objects_in results) is in let a = all o in omega arith
+  returns f results all o is = let some = has_counted (objects_in results) o is in let a = all o in omega arith
 
   -- the cell of an object of one's own in which nothing hangs
   cell_empty : (o k : ℕ) (w : Owner) → s.seat o ≡ Some (Root w) → ((q : ℕ) → s.seat q ≡ Some (Hung o k) → ⊥) → in_cell us o k ≡ None
@@ -150,15 +150,9 @@ module _ (L : Load) (us : List Turn) (s : Ledger) (own : Owned L s) (c : CallsAg
   )
   rights (entry.Refuse t n why x m args) z r = λ o is. owns t r.0 r.1 r.3 o (moves args r.0 r.2 r.6 o is)
   rights (entry.Ret t n results) z r = λ o is. owns t r.0 (r.1 ∷ r.2) r.4 o (returns r.0 results r.6 o is)
-  rights (entry.Unwound t n) z r = tt
-  rights (entry.Reload t x i left) z r = tt
-  rights (entry.Again t n x i) z r = tt
-  rights (entry.Trap t i cause) z r = tt
-  rights (entry.Kill t i) z r = tt
   rights (entry.New t w o ty values) z r = (r.5 ∙ sym h.made, r.4 ∙ sym (acts_for L us s own c p h t r.0 r.1 r.3))
   rights (entry.Drop t o) z r = owns t r.0 r.1 r.3 o (loses_one r.0.own o r.2 r.4)
   rights (entry.Set t o place values) z r = owns t r.0 r.1 r.3 o r.4
-  rights (entry.Wput t i place value) z r = tt
   rights (entry.Take t i slot o) z r = let q = slot_root t r.1 r.2 r.4 i r.0 o r.5 r.7 in owns_root t r.1 r.2 r.4 o q.0 q.1
   rights (entry.Put t i slot o) z r = owns t r.1 r.2 r.4 o (loses_one r.1.own o r.3 r.8)
   rights (entry.DevGet t o b) z r = owns t r.0 r.1 r.3 o r.4
@@ -168,9 +162,8 @@ module _ (L : Load) (us : List Turn) (s : Ledger) (own : Owned L s) (c : CallsAg
       (owns t r.0 r.1 r.3 o some, owns t r.0 r.1 r.3 v (loses_one r.0.own v r.2 r.5), cell_empty o k r.0.party (top_root L s own t r.0 r.1 r.3 o some) r.6)
   rights (entry.Unhang t o k v) z r = (owns t r.0 r.1 r.3 o r.4, cells.full v o k r.5)
   rights (entry.Show t o values) z r = owns t r.0 [] r.1 o r.2
-  rights (entry.Skip t number) z r = tt
-  rights (entry.Done t) z r = tt
   rights (entry.Free o) z r = absurd r
+  rights other z r = tt
 
   -- each object that an entry names is there
   pub names_there : (e : Entry) (z : Ledger) → Row L s e z → Each (IsThere us) (named e)
@@ -181,15 +174,8 @@ module _ (L : Load) (us : List Turn) (s : Ledger) (own : Owned L s) (c : CallsAg
       (λ o is. own_there t r.0 r.1 r.3 o (moves args r.0 r.2 r.6 o is))
       (λ o is. either_there t r.0 r.1 r.3 o (lends args r.0 r.2 r.6 o is))
   names_there (entry.Ret t n results) z r = λ o is. own_there t r.0 (r.1 ∷ r.2) r.4 o (returns r.0 results r.6 o is)
-  names_there (entry.Unwound t n) z r = each_none (IsThere us)
-  names_there (entry.Reload t x i left) z r = each_none (IsThere us)
-  names_there (entry.Again t n x i) z r = each_none (IsThere us)
-  names_there (entry.Trap t i cause) z r = each_none (IsThere us)
-  names_there (entry.Kill t i) z r = each_none (IsThere us)
-  names_there (entry.New t w o ty values) z r = each_none (IsThere us)
   names_there (entry.Drop t o) z r = each_one (IsThere us) o (own_there t r.0 r.1 r.3 o (loses_one r.0.own o r.2 r.4))
   names_there (entry.Set t o place values) z r = each_one (IsThere us) o (own_there t r.0 r.1 r.3 o r.4)
-  names_there (entry.Wput t i place value) z r = each_none (IsThere us)
   names_there (entry.Take t i slot o) z r = each_one (IsThere us) o (there o (Root r.1.party) (slot_root t r.1 r.2 r.4 i r.0 o r.5 r.7).0)
   names_there (entry.Put t i slot o) z r = each_one (IsThere us) o (own_there t r.1 r.2 r.4 o (loses_one r.1.own o r.3 r.8))
   names_there (entry.DevGet t o b) z r = each_one (IsThere us) o (own_there t r.0 r.1 r.3 o r.4)
@@ -198,9 +184,8 @@ module _ (L : Load) (us : List Turn) (s : Ledger) (own : Owned L s) (c : CallsAg
       (each_one (IsThere us) v (own_there t r.0 r.1 r.3 v (loses_one r.0.own v r.2 r.5)))
   names_there (entry.Unhang t o k v) z r = each_more (IsThere us) o (v ∷ []) (own_there t r.0 r.1 r.3 o r.4) (each_one (IsThere us) v (there v (Hung o k) r.5))
   names_there (entry.Show t o values) z r = each_more (IsThere us) o (objects_in values) (own_there t r.0 [] r.1 o r.2) (λ v is. let q = r.3 v is in there v (Hung o q.0) q.1)
-  names_there (entry.Skip t number) z r = each_none (IsThere us)
-  names_there (entry.Done t) z r = each_none (IsThere us)
   names_there (entry.Free o) z r = absurd r
+  names_there other z r = each_none (IsThere us)
 
   -- an object is dropped at most once
   pub drops_once : (e : Entry) (z : Ledger) → Row L s e z → (o : ℕ) → count o (dropped e) ≤ 1

@@ -1,8 +1,8 @@
 -- What a frame sees is of the types of the state.
 use Rattle.std.proofs.Common.{◌≡◌, ◌≢◌, ℕ, zero, suc, ◌<◌, ◌≤◌, ◌==◌, Bool, true, List, [], ◌∷◌, length, find, Option, Some, None, slice_get, is_some, refl, ap, subst, arith, inl, inr}
 use Rattle.std.specs.List.{slice_index_or}
-use Rattle.std.proofs.lemmas.Bool.{cases_Bool, eq-eqb, ne_eqb, eqb-true}
-use Rattle.std.proofs.lemmas.Option.{slice_get_past}
+use Rattle.std.proofs.lemmas.Bool.{cases_Bool, eq-eqb, ne_eqb, eqb-true, and_parts}
+use Rattle.std.proofs.lemmas.Option.{slice_get_past, slice_get-get_or}
 use Rattle.rl_defs.specs.declared.tables.Kind.{Kind}
 use Rattle.rl_defs.specs.declared.tables.Kind.TheVariants as kind
 use Rattle.rl_defs.specs.declared.code.RegKind.TheVariants as held
@@ -21,7 +21,6 @@ use Rattle.machine_laws.specs.Plans.{Plans}
 use Rattle.machine_laws.specs.Fitting.{Fitting}
 use Rattle.machine_laws.proofs.Objects.{found, found_above}
 use Rattle.machine_laws.proofs.Instances.{live_there}
-use Rattle.machine_laws.proofs.CallerRanks.{and_true}
 use Rattle.machine_laws.proofs.Retyping.{kinds_by_struct}
 
 -- an object that is found by a test is found by its number
@@ -45,7 +44,7 @@ hung_there L s o at v laid is = go (find (λ x. hangs_in o at x.placement) s.obj
     place : (p : Placement) → hangs_in o at p ≡ true → p ≡ Hung o at
     place (Root w) e = absurd cc
     place (Hung q k) e =
-        let parts = and_true (q == o) (k == at) e in
+        let parts = and_parts (q == o) (k == at) e in
         let a = eqb-true q o parts.0 in
         let b = eqb-true k at parts.1 in
         rw (a, b) refl
@@ -67,11 +66,6 @@ number_there (kind.Own ty ∷ kinds) (n ∷ cells) zero same = refl
 number_there (kind.Lent ty ∷ kinds) (n ∷ cells) zero same = refl
 number_there (kind.Cap t ∷ kinds) (n ∷ cells) zero same = refl
 number_there (k ∷ kinds) (n ∷ cells) (suc at) same = number_there kinds cells at (omega (arith, same))
-
-index_get : (xs : List ℕ) (k : ℕ) → k < length xs → slice_get xs k ≡ Some (slice_index_or xs k 0)
-index_get [] k lt = absurd (omega arith)
-index_get (x ∷ xs) zero lt = refl
-index_get (x ∷ xs) (suc k) lt = index_get xs k (omega arith)
 
 pub sees : (L : Load) (s : State) (i : ℕ) → Plans L → Laid L s → Fitting L s → is_live s i ≡ true → FitsSight (types_of L s) (domain_of_instance L s i) (seen L s i)
 sees L s i plans laid fits lives = record {
@@ -109,4 +103,4 @@ sees L s i plans laid fits lives = record {
     bound : (k : ℕ) → k < length (imports (domain_of_instance L s i).lines) → (types_of L s).trait_of (slice_index_or (binds L (instance_load s i)) k 0) ≡ trait_number L.tables (type_at (imports (domain_of_instance L s i).lines) (Some k))
     bound k lt =
         let count = plans.binds.count (instance_load s i) in
-        plans.binds.trait (instance_load s i) k (slice_index_or (binds L (instance_load s i)) k 0) (index_get (binds L (instance_load s i)) k (omega (arith, count, lt)))
+        plans.binds.trait (instance_load s i) k (slice_index_or (binds L (instance_load s i)) k 0) (slice_get-get_or (binds L (instance_load s i)) k 0 (omega (arith, count, lt)))

@@ -1,6 +1,6 @@
 -- Slots of live instances hold objects of their structs behind each row, and the device keeps its blocks.
-use Rattle.std.proofs.Common.{◌≡◌, ◌≢◌, ℕ, zero, suc, ◌+◌, ◌-◌, ◌<◌, ◌≤◌, ◌⊎◌, inl, inr, Bool, true, false, cond, List, [], ◌∷◌, ◌++◌, length, Option, Some, None, slice_get, slice_set, refl, ap, sym, subst, ◌∙◌, arith}
-use Rattle.std.proofs.lemmas.Bool.{cases_eq, eq-eqb}
+use Rattle.std.proofs.Common.{◌≡◌, ◌≢◌, ℕ, zero, suc, ◌+◌, ◌-◌, ◌<◌, ◌⊎◌, inl, inr, Bool, true, false, cond, List, [], ◌∷◌, ◌++◌, length, Option, Some, None, slice_get, slice_set, refl, ap, sym, subst, ◌∙◌, arith}
+use Rattle.std.proofs.lemmas.Bool.{cases_eq, cases_lt}
 use Rattle.rl_defs.specs.declared.values.Owner.TheVariants as owner
 use Rattle.rl_defs.specs.declared.entry.Entry.{Entry}
 use Rattle.rl_defs.specs.declared.entry.Entry.TheVariants as entry
@@ -17,12 +17,12 @@ use Rattle.rl_defs.specs.Machine.CallRows.{instance_for, reloaded}
 use Rattle.rl_defs.specs.Machine.Steps.{Row}
 use Rattle.machine_laws.specs.Ledger.{at}
 use Rattle.machine_laws.specs.LedgerOf.{ledger_of}
-use Rattle.machine_laws.specs.LedgerSound.{in_slots, is_of, Owned}
+use Rattle.machine_laws.specs.LedgerSound.{is_of, Owned}
 use Rattle.machine_laws.specs.Shape.{Laid}
 use Rattle.machine_laws.specs.Plans.{Plans}
 use Rattle.machine_laws.specs.Registers.{HasTables}
 use Rattle.machine_laws.specs.Fitting.{Fitting}
-use Rattle.machine_laws.proofs.Rows.{at_same, at_other, row_within, length_set}
+use Rattle.machine_laws.proofs.Rows.{at_same, at_other, row_within}
 use Rattle.machine_laws.proofs.Objects.{found_below}
 use Rattle.machine_laws.proofs.Instances.{row_unchanged, live_there, lives_kept, lives_ended, slots_set}
 use Rattle.machine_laws.proofs.Seats.{seats, IsIn}
@@ -34,6 +34,7 @@ use Rattle.machine_laws.proofs.Moves.{IsPut, Moves, row_moves}
 use Rattle.machine_laws.proofs.LaidRows.{laid_row}
 use Rattle.machine_laws.proofs.StaysRows.{stays_swept, new_stays, instances_row, row_front}
 use Rattle.machine_laws.proofs.ObjectsKept.{does_fit}
+use Rattle.machine_laws.proofs.Unlent.{in_slots_some}
 
 -- a slot of a live instance was full so before
 pub record WasFull (s : State) (i k o : ℕ) : Type 0 where
@@ -115,20 +116,15 @@ row_past (x ∷ xs) ys (suc zero) lt = absurd (omega (arith, lt))
 row_past (x ∷ xs) ys (suc (suc j)) lt = let e : suc (suc j) - suc (length xs) ≡ suc j - length xs = omega arith in rw e (row_past xs ys (suc j) (omega (arith, lt)))
 
 slots_reload : (L : Load) (s : State) (x i left : ℕ) → SlotsStay s (reloaded L x i left s)
-slots_reload L s x i left j k o up full = elim (cases_within j (length s.instances)) [
-  | inl le ↦
+slots_reload L s x i left j k o up full = elim (cases_lt (length s.instances) j) [
+  | inl lt ↦ absurd (fresh_empty L (load_of_target L x) (load_row L (load_of_target L x)) (j - length s.instances) k o (ap (λ y. content (slice_get (slots_in y) k)) (sym (row_past s.instances more j lt)) ∙ full))
+  | inr le ↦
       let front = row_front s.instances more j le in
       record { up = ap lives (sym front) ∙ up; full = ap (λ y. content (slice_get (slots_in y) k)) (sym front) ∙ full }
-  | inr lt ↦ absurd (fresh_empty L (load_of_target L x) (load_row L (load_of_target L x)) (j - length s.instances) k o (ap (λ y. content (slice_get (slots_in y) k)) (sym (row_past s.instances more j lt)) ∙ full))
 ]
   where
     more : List Instance
     more = instance_for L (load_of_target L x) (load_row L (load_of_target L x))
-
-    cases_within : (a b : ℕ) → (a ≤ b) ⊎ (b < a)
-    cases_within zero b = inl (omega arith)
-    cases_within (suc a) zero = inr (omega arith)
-    cases_within (suc a) (suc b) = elim (cases_within a b) [ inl le ↦ inl (omega (arith, le)) | inr lt ↦ inr (omega (arith, lt)) ]
 
 slots_still : (s : State) → SlotsStay s s
 slots_still s i k o up full = record { up = up; full = full }
@@ -154,19 +150,11 @@ slot_moves L e fills = record {
   reload = λ s x left. slots_reload L s x (length s.instances + 1) left;
 }
 
--- the content of a slot is counted
-slot_counted : (contents : List (Option ℕ)) (k o : ℕ) → content (slice_get contents k) ≡ Some o → 0 < in_slots o contents
-slot_counted [] k o is = absurd cc
-slot_counted (None ∷ contents) zero o is = absurd cc
-slot_counted (Some q ∷ contents) zero o is = let e : q ≡ o = cc in rw (eq-eqb q o e) (omega arith)
-slot_counted (None ∷ contents) (suc k) o is = slot_counted contents k o is
-slot_counted (Some q ∷ contents) (suc k) o is = let r = slot_counted contents k o is in omega (arith, r)
-
 -- an object in a slot of a live instance is in the heap
 pub slot_there : (L : Load) (s : State) (i k o : ℕ) → Owned L (ledger_of L s) → is_live s i ≡ true → in_slot s i k ≡ Some o → IsIn s o
 slot_there L s i k o owned up full =
     let once = owned.once (owner.Instance i) o up in
-    let some = slot_counted (slots s i) k o full in
+    let some = in_slots_some (slots s i) k o full in
     go (seats s o) refl (let a : 0 < cond (is_of (owner.Instance i) (seats s o)) 1 0 = omega (arith, once, some) in a)
   where
     go : (p : Option Placement) → seats s o ≡ p → 0 < cond (is_of (owner.Instance i) p) 1 0 → IsIn s o

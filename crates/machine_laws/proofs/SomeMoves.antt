@@ -1,9 +1,9 @@
 -- Where some client isn't done, some client is enabled: one that waits, waits for a serial instance that another is in, of a lower rank than
 -- all live serial ones that it is in itself.
-use Rattle.std.proofs.Common.{◌≡◌, ℕ, zero, suc, ◌+◌, ◌<◌, ◌≤◌, ◌==◌, ◌⊎◌, inl, inr, Bool, true, false, not, ◌&&◌, ◌||◌, List, [], ◌∷◌, length, Option, Some, None, slice_get, refl, ap, ap₂, sym, subst, arith}
+use Rattle.std.proofs.Common.{◌≡◌, ℕ, zero, suc, ◌+◌, ◌<◌, ◌≤◌, ◌==◌, ◌⊎◌, inl, inr, true, false, not, ◌&&◌, List, [], ◌∷◌, length, Option, Some, None, slice_get, refl, ap, ap₂, sym, subst, arith}
 use Rattle.std.specs.Prelude.{All}
 use Rattle.std.specs.List.{list_any}
-use Rattle.std.proofs.lemmas.Bool.{cases_Bool, eqb-true}
+use Rattle.std.proofs.lemmas.Bool.{cases_Bool, eqb-true, and_parts, or_cases, not-true}
 use Rattle.rl_defs.specs.declared.values.Owner.TheVariants as owner
 use Rattle.rl_defs.specs.declared.values.RpcCode.{RpcCode}
 use Rattle.rl_defs.specs.declared.load.Load.{Load}
@@ -31,7 +31,7 @@ use Rattle.machine_laws.proofs.Tops.{bottom, entries, under, entries_top, client
 use Rattle.machine_laws.proofs.Acting.{commands_as}
 use Rattle.machine_laws.proofs.Wishes.{ClientWish, wish_as}
 use Rattle.machine_laws.proofs.Callers.{calls_well}
-use Rattle.machine_laws.proofs.CallerRanks.{and_true, and_false, all_below, below_client, entries_over}
+use Rattle.machine_laws.proofs.CallerRanks.{and_false, all_below, below_client, entries_over}
 use Rattle.machine_laws.proofs.CallingRows.{unrefused, current_same}
 use Rattle.machine_laws.proofs.Ranks.{RankedIn, below_of}
 use Rattle.machine_laws.proofs.StackFits.{calls_back}
@@ -57,30 +57,22 @@ row_there [] (suc n) pos le is = omega (arith, le)
 row_there (x ∷ xs) (suc zero) pos le is = cc
 row_there (x ∷ xs) (suc (suc n)) pos le is = row_there xs (suc n) (omega arith) (omega (arith, le)) is
 
-not_false : (b : Bool) → not b ≡ true → b ≡ false
-not_false true e = absurd cc
-not_false false e = refl
-
 no_code : (code : Option RpcCode) → is_none_code code ≡ true → code ≡ None
 no_code None e = refl
 no_code (Some k) e = absurd cc
 
-or_parts : (a b : Bool) → (a || b) ≡ true → (a ≡ true) ⊎ (b ≡ true)
-or_parts true b e = inl refl
-or_parts false b e = inr e
-
 -- one of the others has a frame in the instance
 some_other : (i t k : ℕ) (stacks : List (List StackFrame)) → others_in i t k stacks ≡ true → (j : ℕ) × (fs : List StackFrame) × (row stacks (suc j) ≡ Some fs) × (j < length stacks) × (is_in i fs ≡ true)
 some_other i t k [] is = absurd cc
-some_other i t k (gs ∷ stacks) is = elim (or_parts (not (k == t) && is_in i gs) (others_in i t (k + 1) stacks) is) [
-  | inl here ↦ (0, gs, refl, omega arith, (and_true (not (k == t)) (is_in i gs) here).1)
+some_other i t k (gs ∷ stacks) is = elim (or_cases (not (k == t) && is_in i gs) (others_in i t (k + 1) stacks) is) [
+  | inl here ↦ (0, gs, refl, omega arith, (and_parts (not (k == t)) (is_in i gs) here).1)
   | inr later ↦ let r = some_other i t (k + 1) stacks later in (suc r.0, r.1, r.2, (let lt = r.3 in omega (arith, lt)), r.4)
 ]
 
 -- a frame in the instance is one in the ledger too
 frame_enters : (i : ℕ) (fs : List StackFrame) (below : List LedgerFrame) → is_in i fs ≡ true → enters i (entries_of fs below)
 frame_enters i [] below is = absurd cc
-frame_enters i (f ∷ fs) below is = elim (or_parts (f.instance == i) (is_in i fs) is) [
+frame_enters i (f ∷ fs) below is = elim (or_cases (f.instance == i) (is_in i fs) is) [
   | inl here ↦ let over = entries_over fs (frame_entry f ∷ below) in (frame_entry f, over.0, below, over.1, ap owner.Instance (eqb-true f.instance i here))
   | inr later ↦ frame_enters i fs (frame_entry f ∷ below) later
 ]
@@ -99,7 +91,7 @@ record Awaits (L : Load) (s : State) (t i : ℕ) : Type 0 where
 -- an instance that a client may not yet enter is occupied
 occupied_by : (L : Load) (s : State) (t i : ℕ) → Laid L s → is_live s i ≡ true → is_taken L s t i ≡ true → IsOccupied L s i
 occupied_by L s t i laid lives taken =
-    let parts = and_true (is_serial L (instance_load s i)) (others_in i t 1 s.stacks) taken in
+    let parts = and_parts (is_serial L (instance_load s i)) (others_in i t 1 s.stacks) taken in
     let other = some_other i t 1 s.stacks parts.1 in
     record {
       lives = lives;
@@ -140,8 +132,8 @@ module _ (L : Load) (us : List Turn) (s : State) (plans : Plans L) (tables : Has
   enter_awaits : (t : ℕ) (w : Wish) → is_undone (row s.threads t) ≡ true → wish L s t ≡ Some w → would_enter L s t (Some w) ≡ true → Awaits L s t (current L s w.target)
   enter_awaits t w ready wants would =
       let i : ℕ = current L s w.target in
-      let parts = and_true (is_live s i && is_none_code (refusal L s t w.target)) (is_taken L s t i) would in
-      let free = and_true (is_live s i) (is_none_code (refusal L s t w.target)) parts.0 in
+      let parts = and_parts (is_live s i && is_none_code (refusal L s t w.target)) (is_taken L s t i) would in
+      let free = and_parts (is_live s i) (is_none_code (refusal L s t w.target)) parts.0 in
       let none = unrefused L s t w.target (no_code (refusal L s t w.target) free.1) in
       let held = occupied_by L s t i laid free.0 parts.1 in
       let load = target_load w.target (wish_target t w ready wants) in
@@ -157,9 +149,9 @@ module _ (L : Load) (us : List Turn) (s : State) (plans : Plans L) (tables : Has
   reenter_awaits : (t : ℕ) (f : StackFrame) (thread : Thread) → row s.threads t ≡ Some thread → top (stack s t) ≡ Some f → would_reenter L s t (Some f) ≡ true → Awaits L s t (current L s f.target)
   reenter_awaits t f thread of on_top would =
       let i : ℕ = current L s f.target in
-      let parts = and_true ((is_dead s f && is_reissuable L f) && is_live s i) (is_taken L s t i) would in
-      let free = and_true (is_dead s f && is_reissuable L f) (is_live s i) parts.0 in
-      let dead : is_live s f.instance ≡ false = not_false (is_live s f.instance) (and_true (is_dead s f) (is_reissuable L f) free.0).0 in
+      let parts = and_parts ((is_dead s f && is_reissuable L f) && is_live s i) (is_taken L s t i) would in
+      let free = and_parts (is_dead s f && is_reissuable L f) (is_live s i) parts.0 in
+      let dead : is_live s f.instance ≡ false = not-true (is_live s f.instance) (and_parts (is_dead s f) (is_reissuable L f) free.0).0 in
       let held = occupied_by L s t i laid free.1 parts.1 in
       let call : CallFits L s f = (calls_back L s (below_top (stack s t)) (f ∷ []) (subst (CallsFit L s) (top_splits (stack s t) f on_top) (fits.calls t))).0 in
       let load = target_load f.target call.target in
@@ -179,7 +171,7 @@ module _ (L : Load) (us : List Turn) (s : State) (plans : Plans L) (tables : Has
   -- a client that isn't done is enabled or waits for an instance
   moves_or_waits : (t : ℕ) (thread : Thread) → row s.threads t ≡ Some thread → is_undone (row s.threads t) ≡ true → (is_enabled L s t ≡ true) ⊎ ((i : ℕ) × Awaits L s t i)
   moves_or_waits t thread of ready = elim (cases_Bool (waits L s t)) [
-    | inl waiting ↦ inr (elim (or_parts (would_enter L s t (wish L s t)) (would_reenter L s t (top (stack s t))) waiting) [
+    | inl waiting ↦ inr (elim (or_cases (would_enter L s t (wish L s t)) (would_reenter L s t (top (stack s t))) waiting) [
       | inl enters' ↦ by_wish (wish L s t) refl enters'
       | inr reenters ↦ by_top (top (stack s t)) refl reenters
     ])

@@ -1,5 +1,5 @@
 -- What Fitting carries of a sound state: kinds, layout and numbers.
-use Rattle.std.proofs.Common.{◌≡◌, ℕ, zero, suc, ◌+◌, ◌<◌, ◌≤◌, List, [], ◌∷◌, length, Some, slice_get, refl, ap, subst, ◌∙◌, arith, inl, inr}
+use Rattle.std.proofs.Common.{◌≡◌, ℕ, zero, suc, ◌<◌, ◌≤◌, List, [], ◌∷◌, length, Some, slice_get, refl, ap, subst, ◌∙◌, arith, inl, inr}
 use Rattle.std.proofs.lemmas.Bool.{cases_lt}
 use Rattle.rl_defs.specs.declared.values.Owner.TheVariants as owner
 use Rattle.rl_defs.specs.declared.frame.FrameBody.{FrameBody}
@@ -10,13 +10,13 @@ use Rattle.rl_defs.specs.State.{State, StackFrame, Object, Thread, row, is_live,
 use Rattle.rl_defs.specs.Loans.{object_of}
 use Rattle.rl_defs.specs.Machine.Steps.{Turn}
 use Rattle.rl_defs.specs.Machine.Sound.{IsFrame, BodyFits, KindsFit, NumbersFit, LaidOut}
-use Rattle.machine_laws.specs.Ledger.{LedgerFrame}
-use Rattle.machine_laws.specs.LedgerOf.{client_entry, frame_entry, entries_of, seat_of, ledger_of}
+use Rattle.machine_laws.specs.LedgerOf.{client_entry, seat_of, ledger_of}
 use Rattle.machine_laws.specs.Shape.{Rises, Laid}
 use Rattle.machine_laws.specs.Fitting.{CallsFit, CallFits, StackFits, BodyFits as FitsBody, Fitting}
 use Rattle.machine_laws.proofs.Objects.{found_below}
 use Rattle.machine_laws.proofs.StackFits.{fits_split, calls_back}
 use Rattle.machine_laws.proofs.KeptSteps.{Kept}
+use Rattle.machine_laws.proofs.CallerRanks.{entries_length}
 
 -- at most 65,536 objects are live
 abbrev pub Few : State → Type 0
@@ -50,11 +50,6 @@ rises_places n next j k [] x y rises lt a b = absurd cc
 rises_places n next j zero (z ∷ xs) x y rises lt a b = absurd (omega (arith, lt))
 rises_places n next zero (suc k) (z ∷ xs) x y rises lt a b = let e : z ≡ x = cc in subst (λ (w : Object). w.number < y.number) e (rises_above z.number next k xs y rises.2 b)
 rises_places n next (suc j) (suc k) (z ∷ xs) x y rises lt a b = rises_places z.number next j k xs x y rises.2 (omega (arith, lt)) a b
-
--- the ledger's stack has the client's own frame more
-entries_length : (fs : List StackFrame) (below : List LedgerFrame) → length (entries_of fs below) ≡ length fs + length below
-entries_length [] below = omega arith
-entries_length (f ∷ fs) below = let e = entries_length fs (frame_entry f ∷ below) in omega (arith, e)
 
 -- a client that isn't there has no frames
 no_stack : (xs : List (List StackFrame)) (t : ℕ) → length xs < t → frames_of (row xs t) ≡ []

@@ -1,7 +1,8 @@
 -- What is lent stands as it may.
-use Rattle.std.proofs.Common.{◌≡◌, ℕ, zero, suc, ◌<◌, ◌⊎◌, true, false, List, [], ◌∷◌, Option, Some, None, slice_get, slice_set, refl, ap, sym, subst, ◌∙◌, arith, inl, inr}
+use Rattle.std.proofs.Common.{◌≡◌, ℕ, zero, suc, ◌<◌, ◌⊎◌, true, false, List, [], ◌∷◌, Option, Some, None, slice_set, refl, ap, sym, subst, ◌∙◌, arith, inl, inr}
 use Rattle.std.specs.List.{slice_index_or}
 use Rattle.std.proofs.lemmas.Bool.{cases_Bool, cases_eq, ne_eqb}
+use Rattle.std.proofs.lemmas.Option.{get_or_from_slice_get}
 use Rattle.rl_defs.specs.declared.values.Value.{Value}
 use Rattle.rl_defs.specs.declared.values.Value.TheVariants as value
 use Rattle.rl_defs.specs.declared.values.Owner.{Owner}
@@ -31,15 +32,10 @@ use Rattle.machine_laws.proofs.Seats.{seats}
 use Rattle.machine_laws.proofs.Stacks.{loans_same, lent_entries}
 use Rattle.machine_laws.proofs.StackFits.{fits_split, calls_back}
 use Rattle.machine_laws.proofs.OwnHeads.{index_other}
-use Rattle.machine_laws.proofs.OwnEntries.{has_counted}
 use Rattle.machine_laws.proofs.KeptSteps.{Kept}
 use Rattle.machine_laws.proofs.SoundStacks.{root_seat, seat_root, frame_splits, own_entries, own_client, covered_from}
 use Rattle.machine_laws.proofs.SoundOwners.{held_once}
-
-index_of : {A : Type 0} (xs : List A) (r : ℕ) (x other : A) → slice_get xs r ≡ Some x → slice_index_or xs r other ≡ x
-index_of [] r x other is = absurd cc
-index_of (y ∷ xs) zero x other is = cc
-index_of (y ∷ xs) (suc r) x other is = index_of xs r x other is
+use Rattle.machine_laws.proofs.Counts.{has_counted}
 
 -- a register stays empty, and stays known to hold a lent object, where own objects leave
 emptied : (kinds : Kinds) (a r : ℕ) → slice_index_or kinds r held.Empty ≡ held.Empty → slice_index_or (slice_set kinds a held.Empty) r held.Empty ≡ held.Empty
@@ -147,12 +143,12 @@ module _ (L : Load) (us : List Turn) (s : State) (laid : Laid L s) (kept : Kept 
   registers_lent : Fitting L s → (t o : ℕ) (below : List StackFrame) (f : StackFrame) → IsFrame s t below f → is_live s f.instance ≡ true → HoldsLent L s f o → has f.lent o ≡ true
   registers_lent fits t o below f here lives h =
       let b = subst (BodyFits L s f here.above) h.code (body_at fits t below f here lives) in
-      body_lent L s f h.at h.regs h.number h.ty o (index_of h.regs h.number (Some (value.Obj o)) None h.object) here.above b (index_of (kinds_at (domain_of_instance L s f.instance) h.at) h.number (held.Lent h.ty) held.Empty h.kind)
+      body_lent L s f h.at h.regs h.number h.ty o (get_or_from_slice_get h.regs h.number (Some (value.Obj o)) None h.object) here.above b (get_or_from_slice_get (kinds_at (domain_of_instance L s f.instance) h.at) h.number (held.Lent h.ty) held.Empty h.kind)
 
   registers_own : Fitting L s → (t o : ℕ) (below : List StackFrame) (f : StackFrame) → IsFrame s t below f → is_live s f.instance ≡ true → HoldsOwn L s f o → has f.lent o ≡ false
   registers_own fits t o below f here lives h =
       let b = subst (BodyFits L s f here.above) h.code (body_at fits t below f here lives) in
-      body_own L s f h.at h.regs h.number h.ty o (index_of h.regs h.number (Some (value.Obj o)) None h.object) here.above b (index_of (kinds_at (domain_of_instance L s f.instance) h.at) h.number (held.Own h.ty) held.Empty h.kind)
+      body_own L s f h.at h.regs h.number h.ty o (get_or_from_slice_get h.regs h.number (Some (value.Obj o)) None h.object) here.above b (get_or_from_slice_get (kinds_at (domain_of_instance L s f.instance) h.at) h.number (held.Own h.ty) held.Empty h.kind)
 
   -- What is lent is a root, to frames of one stack, above its owner's one place.
   pub loans_stand : Fitting L s → LoansStand L s

@@ -17,11 +17,12 @@ use Rattle.machine_laws.specs.Shape.{Laid}
 use Rattle.machine_laws.specs.Fitting.{Fitting}
 use Rattle.machine_laws.proofs.Rows.{row_within}
 use Rattle.machine_laws.proofs.Seats.{seats}
-use Rattle.machine_laws.proofs.Stacks.{loans_same, sum_shift, sum_same}
+use Rattle.machine_laws.proofs.Stacks.{loans_same, sum_shift}
 use Rattle.machine_laws.proofs.Owners.{same_self}
 use Rattle.machine_laws.proofs.OwnerRows.{sum_none, none_is_of}
 use Rattle.machine_laws.proofs.KeptSteps.{Kept}
 use Rattle.machine_laws.proofs.SoundStacks.{root_seat, seat_root, own_entries, own_client}
+use Rattle.machine_laws.proofs.Sums.{sum_same}
 
 -- an owner of the machine that lives is alive in the ledger
 lives_alive : (s : State) (w : Owner) → owner_lives s w ≡ true → alive (is_live s) w ≡ true

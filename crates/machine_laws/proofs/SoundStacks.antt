@@ -14,6 +14,7 @@ use Rattle.machine_laws.proofs.Ranks.{BelowIn, RankedIn}
 use Rattle.machine_laws.proofs.Tops.{bottom, entries}
 use Rattle.machine_laws.proofs.Seats.{seats}
 use Rattle.machine_laws.proofs.Present.{seated}
+use Rattle.machine_laws.proofs.CallerRanks.{entries_over}
 
 -- a root, by its seat
 pub root_seat : (s : State) (o : ℕ) (w : Owner) → IsRoot s o w → seats s o ≡ Some (Root w)
@@ -26,16 +27,6 @@ seat_root s o w is =
     (x.0, x.1, cc)
 
 -- the ledger lists the newest frame first: those above a frame, the frame, and those below it
-pub entries_over : (fs : List StackFrame) (rest : List LedgerFrame) → (over : List LedgerFrame) × (entries_of fs rest ≡ over ++ rest)
-entries_over [] rest = ([], refl)
-entries_over (f ∷ fs) rest =
-    let r = entries_over fs (frame_entry f ∷ rest) in
-    (r.0 ++ frame_entry f ∷ [], r.1 ∙ sym (joined r.0 (frame_entry f) rest))
-  where
-    joined : (xs : List LedgerFrame) (x : LedgerFrame) (ys : List LedgerFrame) → (xs ++ x ∷ []) ++ ys ≡ xs ++ x ∷ ys
-    joined [] x ys = refl
-    joined (z ∷ xs) x ys = ap (λ zs. z ∷ zs) (joined xs x ys)
-
 pub entries_split : (below above : List StackFrame) (f : StackFrame) (rest : List LedgerFrame) → (over : List LedgerFrame) × (entries_of (below ++ f ∷ above) rest ≡ over ++ frame_entry f ∷ entries_of below rest)
 entries_split [] above f rest = entries_over above (frame_entry f ∷ rest)
 entries_split (g ∷ below) above f rest = entries_split below above f (frame_entry g ∷ rest)

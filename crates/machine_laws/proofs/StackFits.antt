@@ -3,7 +3,7 @@ use Rattle.std.proofs.Common.{◌≡◌, true, List, [], ◌∷◌, ◌++◌, re
 use Rattle.rl_defs.specs.declared.load.Load.{Load}
 use Rattle.rl_defs.specs.State.{State, StackFrame, is_live}
 use Rattle.machine_laws.specs.Fitting.{StackFits, CallsFit}
-use Rattle.machine_laws.proofs.Retyping.{Agrees, body_kept, above_same}
+use Rattle.machine_laws.proofs.Retyping.{Agrees, body_kept}
 
 -- two states agree on the live frames of a stack
 abbrev pub AllAgree : Load → State → State → List StackFrame → Type 0
@@ -17,10 +17,6 @@ stack_kept L s z (f ∷ fs) agree fits = (
   stack_kept L s z fs agree.1 fits.1,
 )
 
-pub agree_front : (L : Load) (s z : State) (fs gs : List StackFrame) → AllAgree L s z (fs ++ gs) → AllAgree L s z fs
-agree_front L s z [] gs agree = tt
-agree_front L s z (f ∷ fs) gs agree = (agree.0, agree_front L s z fs gs agree.1)
-
 pub agree_each : (L : Load) (s z : State) (fs : List StackFrame) → ((below above : List StackFrame) (f : StackFrame) → fs ≡ below ++ f ∷ above → is_live z f.instance ≡ true → (is_live s f.instance ≡ true) × Agrees L s z f) → AllAgree L s z fs
 agree_each L s z [] each = tt
 agree_each L s z (f ∷ fs) each = (each [] fs f refl, agree_each L s z fs (λ below above g is. each (f ∷ below) above g (ap (λ rest. f ∷ rest) is)))
@@ -29,27 +25,11 @@ agree_each L s z (f ∷ fs) each = (each [] fs f refl, agree_each L s z fs (λ b
 abbrev pub BelowFits : Load → State → List StackFrame → StackFrame → Type 0
 BelowFits L s below top' = (h : StackFrame) (rest : List StackFrame) → h.target ≡ top'.target → h.method ≡ top'.method → h.args ≡ top'.args → (StackFits L s (h ∷ rest)) → StackFits L s (below ++ h ∷ rest)
 
-pub below_fits : (L : Load) (s : State) (below rest : List StackFrame) (f : StackFrame) → StackFits L s (below ++ f ∷ rest) → BelowFits L s below f
-below_fits L s [] rest f fits h rest' target method args top' = top'
-below_fits L s (g ∷ []) rest f fits h rest' target method args top' = (λ lives. above_same L s g f h rest g.body target method args (fits.0 lives) rest', top')
-below_fits L s (g ∷ (g' ∷ below)) rest f fits h rest' target method args top' = (
-  λ lives. above_same L s g g' g' (below ++ f ∷ rest) g.body refl refl refl (fits.0 lives) (below ++ h ∷ rest'),
-  below_fits L s (g' ∷ below) rest f fits.1 h rest' target method args top',
-)
-
 pub fits_split : (L : Load) (s : State) (below rest : List StackFrame) (f : StackFrame) → StackFits L s (below ++ f ∷ rest) → StackFits L s (f ∷ rest)
 fits_split L s [] rest f fits = fits
 fits_split L s (g ∷ below) rest f fits = fits_split L s below rest f fits.1
 
 -- the calls of frames
-pub calls_front : (L : Load) (s : State) (fs gs : List StackFrame) → CallsFit L s (fs ++ gs) → CallsFit L s fs
-calls_front L s [] gs fits = tt
-calls_front L s (f ∷ fs) gs fits = (fits.0, calls_front L s fs gs fits.1)
-
 pub calls_back : (L : Load) (s : State) (fs gs : List StackFrame) → CallsFit L s (fs ++ gs) → CallsFit L s gs
 calls_back L s [] gs fits = fits
 calls_back L s (f ∷ fs) gs fits = calls_back L s fs gs fits.1
-
-pub calls_joined : (L : Load) (s : State) (fs gs : List StackFrame) → CallsFit L s fs → CallsFit L s gs → CallsFit L s (fs ++ gs)
-calls_joined L s [] gs front back = back
-calls_joined L s (f ∷ fs) gs front back = (front.0, calls_joined L s fs gs front.1 back)

@@ -1,5 +1,5 @@
 -- The stacks of a state and those of its ledger.
-use Rattle.std.proofs.Common.{◌≡◌, ℕ, zero, suc, ◌+◌, ◌<◌, ◌≤◌, not, List, [], ◌∷◌, ◌++◌, length, Option, Some, None, refl, ap, ◌∙◌, arith}
+use Rattle.std.proofs.Common.{◌≡◌, ℕ, zero, suc, ◌+◌, ◌<◌, not, List, [], ◌∷◌, ◌++◌, length, Option, Some, None, refl, ap, ◌∙◌, arith}
 use Rattle.rl_defs.specs.declared.values.Owner.{Owner}
 use Rattle.rl_defs.specs.declared.values.Owner.TheVariants as owner
 use Rattle.rl_defs.specs.declared.load.Load.{Load}
@@ -12,6 +12,7 @@ use Rattle.machine_laws.specs.Ledger.{LedgerFrame, alive, lent_in, loans, is_los
 use Rattle.machine_laws.specs.LedgerOf.{frame_entry, client_entry, entries_of, seat_of, ledger_of}
 use Rattle.machine_laws.specs.Shape.{Laid}
 use Rattle.machine_laws.proofs.Objects.{found_number}
+use Rattle.machine_laws.proofs.Sums.{sum_same}
 
 -- the newest frame of a stack stands first in its entries
 pub entries_push : (below : List StackFrame) (f : StackFrame) (bottom : List LedgerFrame) → entries_of (below ++ f ∷ []) bottom ≡ frame_entry f ∷ entries_of below bottom
@@ -46,13 +47,6 @@ lent_entries o (f ∷ fs) bottom = let r = lent_entries o fs (frame_entry f ∷ 
 pub sum_shift : (f : ℕ → ℕ) (n : ℕ) → sum_to f (suc n) ≡ f 1 + sum_to (λ t. f (suc t)) n
 sum_shift f zero = refl
 sum_shift f (suc n) = let r = sum_shift f n in omega (arith, r)
-
-pub sum_same : (f g : ℕ → ℕ) (n : ℕ) → ((t : ℕ) → 0 < t → t ≤ n → f t ≡ g t) → sum_to f n ≡ sum_to g n
-sum_same f g zero same = refl
-sum_same f g (suc n) same =
-    let a = same (suc n) (omega arith) (omega arith) in
-    let b = sum_same f g n (λ t lt le. same t lt (omega arith)) in
-    omega (arith, a, b)
 
 pub lent_sum : (o : ℕ) (stacks : List (List StackFrame)) → sum_to (λ t. lent_in_frames o (frames_of (row stacks t))) (length stacks) ≡ lent_in_all o stacks
 lent_sum o [] = refl

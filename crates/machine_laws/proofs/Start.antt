@@ -17,6 +17,7 @@ use Rattle.rl_defs.specs.Machine.Sound.{object_held}
 use Rattle.rl_defs.specs.Machine.History.{restarts_in, restarts_of}
 use Rattle.machine_laws.specs.Ledger.{LedgerFrame}
 use Rattle.machine_laws.specs.LedgerOf.{names_held, ledger_of}
+use Rattle.machine_laws.proofs.Rows.{zeros}
 
 -- a claim on a place of a mapped list
 pub at_mapped : {A B : Type 0} (Holds : Option B → Type 0) (f : A → B) (xs : List A) (n : ℕ) → Holds None → ((x : A) → Holds (Some (f x))) → Holds (slice_get (map f xs) n)
@@ -73,11 +74,6 @@ module _ (L : Load) where
 
   pub word_first : (i k : ℕ) → slice_index_or (words (start L) i) k 0 ≡ 0
   word_first i k = instance_row L (λ x. ◌≡◌ {A = ℕ} (slice_index_or (words_in x) k 0) 0) i refl (λ j l. zeros (words_of (domain_of L l.domain)) k)
-    where
-      zeros : (n k : ℕ) → ◌≡◌ {A = ℕ} (slice_index_or (replicate n 0) k 0) 0
-      zeros zero k = refl
-      zeros (suc n) zero = refl
-      zeros (suc n) (suc k) = zeros n k
 
   pub slot_first : (i k o : ℕ) → slice_get (slots (start L) i) k ≡ Some (Some o) → ⊥
   slot_first i k o = instance_row L (λ x. slice_get (slots_in x) k ≡ Some (Some o) → ⊥) i (λ e. cc (e)) (λ j l. at_mapped (λ (y : Option (Option ℕ)). y ≡ Some (Some o) → ⊥) (λ slot. None) (slots_of (domain_of L l.domain)) k (λ e. cc (e)) (λ slot e. cc (e)))

@@ -1,6 +1,7 @@
 -- The start is laid out, and everything fits in it.
 use Rattle.std.proofs.Common.{◌≡◌, ℕ, zero, suc, ◌+◌, ◌<◌, List, [], ◌∷◌, length, map, replicate, Option, Some, None, slice_get, refl, ap, sym, subst, ◌∙◌, arith}
 use Rattle.std.specs.List.{flat_map}
+use Rattle.std.proofs.lemmas.List.{length-replicate, length-map}
 use Rattle.rl_defs.specs.declared.load.Load.{Load}
 use Rattle.rl_defs.specs.declared.load.LoadRow.{LoadRow}
 use Rattle.rl_defs.specs.declared.load.ClientRow.{ClientRow}
@@ -12,13 +13,13 @@ use Rattle.machine_laws.specs.Plans.{Plans}
 use Rattle.machine_laws.specs.Shape.{Laid}
 use Rattle.machine_laws.specs.Fitting.{StackFits, CallsFit, BlockFits, NamesFit, Fitting}
 use Rattle.machine_laws.proofs.Start.{slot_first, row_mapped}
-use Rattle.machine_laws.proofs.InstancesKept.{AllInstances, first_fits, length_replicate, length_map}
+use Rattle.machine_laws.proofs.InstancesKept.{AllInstances, first_fits}
 
 pub start_laid : (L : Load) → Laid L (start L)
 start_laid L = record {
-  stacks = length_map (λ client. no_frames) L.clients;
-  threads = length_map first_thread L.clients;
-  shadows = length_map first_shadow L.shadows;
+  stacks = length-map L.clients (λ client. no_frames);
+  threads = length-map L.clients first_thread;
+  shadows = length-map L.shadows first_shadow;
   objects = tt;
   started = omega arith;
 }
@@ -56,7 +57,7 @@ stack_empty L t = row_mapped (λ (x : Option (List StackFrame)). frames_of x ≡
 -- a first thread has names for what the script binds, and they hold nothing
 names_start : (L : Load) (t : ℕ) (client : ClientRow) → ScriptsStand L → row L.clients t ≡ Some client → NamesFit L (start L) t (first_thread client)
 names_start L t client scripts of =
-    let count : length (replicate (length (flat_map bound_by client.commands)) None) ≡ length (flat_map bound_by client.commands) = length_replicate (length (flat_map bound_by client.commands)) None in
+    let count : length (replicate (length (flat_map bound_by client.commands)) None) ≡ length (flat_map bound_by client.commands) = length-replicate (length (flat_map bound_by client.commands)) None in
     record {
       kinds = λ k v is. absurd (let e = none_at (length (flat_map bound_by client.commands)) k in cc (e, is));
       later = λ k binds. none_at (length (flat_map bound_by client.commands)) k;
@@ -90,7 +91,7 @@ start_fitting L plans scripts = record {
       let r = thread_start L t thread is in
       subst (NamesFit L (start L) t) (sym r.2) (names_start L t r.0 scripts r.1));
   device = record {
-    count = length_replicate L.blocks (replicate 64 0);
+    count = length-replicate L.blocks (replicate 64 0);
     each = λ b cells is. subst BlockFits (sym (same_at L.blocks b (replicate 64 0) cells is)) block_blank;
   };
 }

@@ -1,6 +1,7 @@
 -- What each row leaves of the objects that were there, and of the instances.
 use Rattle.std.proofs.Common.{◌≡◌, ℕ, zero, suc, ◌==◌, ◌<◌, ◌≤◌, ◌⊎◌, inl, inr, Bool, true, false, List, [], ◌∷◌, ◌++◌, length, Some, slice_get, refl, ap, sym, subst, ◌∙◌, arith}
 use Rattle.std.proofs.lemmas.Bool.{cases_eq}
+use Rattle.std.proofs.lemmas.List.{length-set, length-append}
 use Rattle.rl_defs.specs.declared.values.Owner.{Owner}
 use Rattle.rl_defs.specs.declared.entry.Entry.{Entry}
 use Rattle.rl_defs.specs.declared.entry.Entry.TheVariants as entry
@@ -15,7 +16,7 @@ use Rattle.rl_defs.specs.Machine.CallRows.{instance_for, reloaded}
 use Rattle.rl_defs.specs.Machine.Steps.{Row}
 use Rattle.machine_laws.specs.Ledger.{at}
 use Rattle.machine_laws.specs.Shape.{Laid}
-use Rattle.machine_laws.proofs.Rows.{at_same, at_other, length_set}
+use Rattle.machine_laws.proofs.Rows.{at_same, at_other}
 use Rattle.machine_laws.proofs.Instances.{row_unchanged, lives_kept, lives_ended, count_kept}
 use Rattle.machine_laws.proofs.Types.{Stays, AnyHow, stays_sweep, stays_without, stays_given, stays_cells, stays_chosen, stays_then, stays_still, new_or_old}
 use Rattle.machine_laws.proofs.Moves.{IsNew, IsWrite, IsHang, Moves, row_moves}
@@ -130,15 +131,11 @@ row_front xs ys (suc j) le = go xs j (omega (arith, le))
     go (x ∷ xs) zero lt = refl
     go (x ∷ xs) (suc j) lt = go xs j (omega (arith, lt))
 
-length_grows : {A : Type 0} (xs ys : List A) → length xs ≤ length (xs ++ ys)
-length_grows [] ys = omega arith
-length_grows (x ∷ xs) ys = let r = length_grows xs ys in omega (arith, r)
-
 instances_reload : (L : Load) (s : State) (x i left : ℕ) → SameInstances s (reloaded L x i left s)
 instances_reload L s x i left =
     let more : List Instance = instance_for L (load_of_target L x) (load_row L (load_of_target L x)) in
     record {
-      grows = length_grows s.instances more;
+      grows = (let e = length-append s.instances more in omega (arith, e));
       loads = λ j le. ap load_of_instance (row_front s.instances more j le);
       lives = λ j le up. ap lives (sym (row_front s.instances more j le)) ∙ up;
       words = λ j le. ap (λ y. length (words_in y)) (row_front s.instances more j le);
@@ -157,7 +154,7 @@ instance_moves L e = record {
   cells = λ writes s o change. instances_still s _ refl;
   hung = λ hangs s o parent place. instances_still s _ refl;
   rooted = λ s o w. instances_still s _ refl;
-  word = λ s i k v. instances_change s i _ (λ x. refl) (λ x. length_set x.words k v) (λ j up. ap (λ (f : ℕ → Bool). f j) (sym (lives_kept s i _ (λ x. refl))) ∙ up);
+  word = λ s i k v. instances_change s i _ (λ x. refl) (λ x. length-set x.words k v) (λ j up. ap (λ (f : ℕ → Bool). f j) (sym (lives_kept s i _ (λ x. refl))) ∙ up);
   taken = λ s i k. instances_change s i _ (λ x. refl) (λ x. refl) (λ j up. ap (λ (f : ℕ → Bool). f j) (sym (lives_kept s i _ (λ x. refl))) ∙ up);
   filled = λ puts s i k o. instances_change s i _ (λ x. refl) (λ x. refl) (λ j up. ap (λ (f : ℕ → Bool). f j) (sym (lives_kept s i _ (λ x. refl))) ∙ up);
   ends = λ s i. instances_change s i _ (λ x. refl) (λ x. refl) (λ j up. at_false i (is_live s) j (ap (λ (f : ℕ → Bool). f j) (sym (lives_ended s i)) ∙ up));

@@ -1,7 +1,7 @@
 -- Each row of the machine, from a state in which everything fits, is a row of the ledger; and each step is a step of the ledger.
-use Rattle.std.proofs.Common.{◌≡◌, ℕ, zero, suc, ◌<◌, ◌==◌, Bool, true, ◌⊎◌, List, [], ◌∷◌, length, find, Option, Some, None, slice_get, is_some, refl, ap, sym, subst, ◌∙◌, arith, inl, inr}
+use Rattle.std.proofs.Common.{◌≡◌, ℕ, ◌<◌, ◌==◌, Bool, true, ◌⊎◌, List, [], ◌∷◌, length, find, Option, Some, None, slice_get, is_some, refl, ap, sym, subst, ◌∙◌, arith, inl, inr}
 use Rattle.std.proofs.lemmas.Bool.{cases_Bool, eq-eqb}
-use Rattle.std.proofs.lemmas.Option.{slice_get_within}
+use Rattle.std.proofs.lemmas.Option.{slice_get_within, slice_get-get_or}
 use Rattle.rl_defs.specs.declared.values.Value.{Value}
 use Rattle.rl_defs.specs.declared.values.Value.TheVariants as value
 use Rattle.rl_defs.specs.declared.values.Owner.{Owner}
@@ -122,13 +122,8 @@ module _ (L : Load) (s : State) (plans : Plans L) (tables : HasTables L.tables) 
       by : (contents : List (Option ℕ)) → k < length contents → content (slice_get contents k) ≡ None → slice_get contents k ≡ Some None
       by contents lt e = go (slice_get contents k) refl e
         where
-          past : {A : Type 0} (xs : List A) (n : ℕ) → slice_get xs n ≡ None → n < length xs → ⊥
-          past [] n e' lt' = omega (arith, lt')
-          past (y ∷ ys) zero e' lt' = cc
-          past (y ∷ ys) (suc n) e' lt' = past ys n e' (omega (arith, lt'))
-
           go : (c : Option (Option ℕ)) → slice_get contents k ≡ c → content c ≡ None → slice_get contents k ≡ Some None
-          go None e' h = absurd (past contents k e' lt)
+          go None e' h = absurd (let there = slice_get-get_or contents k None lt in cc (e', there))
           go (Some None) e' h = e'
           go (Some (Some o)) e' h = absurd cc
 

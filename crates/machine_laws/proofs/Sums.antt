@@ -1,21 +1,16 @@
 -- Sums over the clients, of functions that differ at one.
-use Rattle.std.proofs.Common.{◌≡◌, ℕ, zero, suc, ◌+◌, ◌<◌, ◌≤◌, ◌==◌, refl, ap, sym, arith, inl, inr}
-use Rattle.std.proofs.lemmas.Bool.{cases_eq, eq-eqb, ne_eqb, cond-true, cond-false}
+use Rattle.std.proofs.Common.{◌≡◌, ℕ, zero, suc, ◌+◌, ◌<◌, ◌≤◌, refl, ap, sym, arith, inl, inr}
+use Rattle.std.proofs.lemmas.Bool.{cases_eq}
 use Rattle.rl_defs.specs.Machine.History.{sum_to}
 use Rattle.machine_laws.specs.Ledger.{at}
+use Rattle.machine_laws.proofs.Rows.{at_same, at_other}
 
-pub at_same : {A : Type 0} (k : ℕ) (x : A) (f : ℕ → A) → at k x f k ≡ x
-at_same k x f = cond-true (k == k) x (f k) (eq-eqb k k refl)
-
-pub at_other : {A : Type 0} (k : ℕ) (x : A) (f : ℕ → A) (j : ℕ) → (j ≡ k → ⊥) → at k x f j ≡ f j
-at_other k x f j ne = cond-false (j == k) x (f j) (ne_eqb j k ne)
-
-pub sum_same : (f g : ℕ → ℕ) (n : ℕ) → ((k : ℕ) → k ≤ n → f k ≡ g k) → sum_to f n ≡ sum_to g n
+pub sum_same : (f g : ℕ → ℕ) (n : ℕ) → ((t : ℕ) → 0 < t → t ≤ n → f t ≡ g t) → sum_to f n ≡ sum_to g n
 sum_same f g zero same = refl
 sum_same f g (suc n) same =
-    let rest = sum_same f g n (λ k le. same k (omega arith)) in
-    let here : f (suc n) ≡ g (suc n) = same (suc n) (omega arith) in
-    omega arith
+    let a = same (suc n) (omega arith) (omega arith) in
+    let b = sum_same f g n (λ t lt le. same t lt (omega arith)) in
+    omega (arith, a, b)
 
 -- the sum after a change at t
 pub sum_at : {A : Type 0} (g : A → ℕ) (f : ℕ → A) (t : ℕ) (x : A) (n : ℕ) → 0 < t → t ≤ n
@@ -25,7 +20,7 @@ sum_at g f t x (suc n) pos le = elim (cases_eq t (suc n)) [
   | inl e ↦
       let here : g (at t x f (suc n)) ≡ g x = rw (← e) (ap g (at_same t x f)) in
       let there : g (f t) ≡ g (f (suc n)) = ap (λ k. g (f k)) e in
-      let below : sum_to (λ k. g (at t x f k)) n ≡ sum_to (λ k. g (f k)) n = sum_same (λ k. g (at t x f k)) (λ k. g (f k)) n (λ k small. ap g (at_other t x f k (λ is. omega arith))) in
+      let below : sum_to (λ k. g (at t x f k)) n ≡ sum_to (λ k. g (f k)) n = sum_same (λ k. g (at t x f k)) (λ k. g (f k)) n (λ k pos small. ap g (at_other t x f k (λ is. omega arith))) in
       omega arith
   | inr ne ↦
       let here : g (at t x f (suc n)) ≡ g (f (suc n)) = ap g (at_other t x f (suc n) (λ is. ne (sym is))) in

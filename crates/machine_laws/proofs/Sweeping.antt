@@ -22,9 +22,6 @@ pub record BeforeSweepIn (n : ℕ) (live : ℕ → Bool) (stack : ℕ → List L
 abbrev pub BeforeSweep : Load → Ledger → Type 0
 BeforeSweep L s = BeforeSweepIn (length L.clients) s.live s.stack s.seat s.slots s.next_object
 
-abbrev pub kept : Bool → Option Placement → Option Placement
-kept d x = cond d None x
-
 -- a seat after the sweep was the seat before it, and not doomed
 pub kept_some : (d : Bool) (x : Option Placement) (v : Placement) → cond d None x ≡ Some v → (d ≡ false) × (x ≡ Some v)
 kept_some true x v e = absurd cc

@@ -1,5 +1,5 @@
 -- A sweep keeps what the history tells, and frees what the history says has to go.
-use Rattle.std.proofs.Common.{◌≡◌, ℕ, zero, suc, ◌-◌, ◌<◌, ◌≤◌, ◌==◌, true, false, cond, not, ◌&&◌, ◌||◌, List, [], ◌∷◌, Option, Some, None, refl, ap, sym, ◌∙◌, arith, inl, inr, length}
+use Rattle.std.proofs.Common.{◌≡◌, ℕ, ◌-◌, ◌<◌, ◌≤◌, ◌==◌, true, false, cond, not, ◌&&◌, ◌||◌, List, [], ◌∷◌, Option, Some, None, refl, ap, sym, ◌∙◌, arith, inl, inr, length}
 use Rattle.std.proofs.lemmas.Bool.{cases_eq, cases_Bool, cases_lt}
 use Rattle.std.proofs.Math.Bool.{or-true}
 use Rattle.rl_defs.specs.declared.values.Owner.{Owner}
@@ -9,7 +9,7 @@ use Rattle.rl_defs.specs.declared.load.Load.{Load}
 use Rattle.rl_defs.specs.State.{Placement, Root, Hung}
 use Rattle.rl_defs.specs.Crossing.{has}
 use Rattle.rl_defs.specs.Machine.Steps.{Turn}
-use Rattle.rl_defs.specs.Machine.History.{open_calls, owner_has_ended, objects_made, receiver, lent_in_calls, sum_to, loans_at, is_gone}
+use Rattle.rl_defs.specs.Machine.History.{open_calls, owner_has_ended, objects_made, receiver, lent_in_calls, loans_at, is_gone}
 use Rattle.rl_defs.specs.Machine.OwnedOnce.{IsThere}
 use Rattle.rl_defs.specs.Machine.Caused.{is_to_free, passing}
 use Rattle.machine_laws.specs.Ledger.{Ledger, alive, lent_in, loans, is_lost, is_lost_above, is_doomed_at, is_doomed, sweep, freed}
@@ -20,15 +20,12 @@ use Rattle.machine_laws.proofs.CallRows.{turn}
 use Rattle.machine_laws.proofs.HeapRows.{HeapAgrees}
 use Rattle.machine_laws.proofs.CellRows.{CellsAgree}
 use Rattle.machine_laws.proofs.Passing.{passing_same, has_passing_above, has_passing, passing_only}
+use Rattle.machine_laws.proofs.Sums.{sum_same}
 
 -- the loans that the history tells are those of the frames
 pub loans_same : (L : Load) (us : List Turn) (s : Ledger) (o : ℕ) → CallsAgree L us s → Placed L s → loans_at L us o ≡ loans L s o
-loans_same L us s o c p = sum_within (λ t. lent_in_calls o (open_calls us t)) (λ t. lent_in o (s.stack t)) (length L.clients)
+loans_same L us s o c p = sum_same (λ t. lent_in_calls o (open_calls us t)) (λ t. lent_in o (s.stack t)) (length L.clients)
     (λ t pos le. ap (lent_in_calls o) (c.opens t pos le) ∙ lent_same L s.loads s.next_instance s.next_call t o (s.stack t) (p.grounded t pos le))
-  where
-    sum_within : (f g : ℕ → ℕ) (n : ℕ) → ((t : ℕ) → 0 < t → t ≤ n → f t ≡ g t) → sum_to f n ≡ sum_to g n
-    sum_within f g zero same = refl
-    sum_within f g (suc n) same = let r = sum_within f g n (λ t pos le. same t pos (omega arith)) in let a = same (suc n) (omega arith) (omega arith) in omega arith
 
 -- whether an owner of something ended
 pub ended_same : (L : Load) (us : List Turn) (s : Ledger) (w : Owner) → CallsAgree L us s → ((i : ℕ) → w ≡ owner.Instance i → (0 < i) × (i < s.next_instance)) → owner_has_ended us w ≡ not (alive s.live w)

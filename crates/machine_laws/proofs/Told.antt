@@ -1,8 +1,8 @@
 -- What the ledger keeps of words, slots and closed calls, told of the state itself.
 use Rattle.std.proofs.Common.{◌≡◌, ℕ, zero, suc, ◌+◌, ◌<◌, ◌≤◌, true, List, [], ◌∷◌, length, Option, Some, None, slice_get, refl, ap, sym, ◌∙◌, arith, inl, inr}
-use Rattle.std.specs.List.{slice_index_or}
 use Rattle.std.specs.Prelude.{All}
 use Rattle.std.proofs.lemmas.Bool.{cases_lt}
+use Rattle.std.proofs.lemmas.Option.{get_or_from_slice_get}
 use Rattle.rl_defs.specs.declared.load.Load.{Load}
 use Rattle.rl_defs.specs.Run.{AllDone}
 use Rattle.rl_defs.specs.State.{State, Thread, row}
@@ -24,14 +24,8 @@ row_past xs i past = go (row xs i) refl
     go None e = e
     go (Some x) e = absurd (let w = (row_within xs i x e).1 in omega (arith, w, past))
 
-indexed : (xs : List ℕ) (k v : ℕ) → slice_get xs k ≡ Some v → slice_index_or xs k 0 ≡ v
-indexed [] k v e = absurd cc
-indexed (x ∷ xs) zero v e = cc
-indexed (x ∷ xs) (suc k) v e = indexed xs k v e
-
 no_item : {A : Type 0} (xs : List A) (k : ℕ) → xs ≡ [] → slice_get xs k ≡ None
-no_item xs zero e = rw e refl
-no_item xs (suc k) e = rw e refl
+no_item xs k e = ap (λ ys. slice_get ys k) e
 
 -- words and slots hold what the history tells
 pub contents_told : (L : Load) (us : List Turn) (s : State) → ContentsAgree L us (ledger_of L s) → AreContents L us s
@@ -39,7 +33,7 @@ contents_told L us s agree = record { words = word_told; slots = slot_told }
   where
     word_told : (i at v : ℕ) → slice_get (words s i) at ≡ Some v → v ≡ word_at us i at
     word_told i at v e = elim (cases_lt i (length s.instances + 1)) [
-      | inl lt ↦ sym (agree.words_told i at lt ∙ indexed (words s i) at v e)
+      | inl lt ↦ sym (agree.words_told i at lt ∙ get_or_from_slice_get (words s i) at v 0 e)
       | inr past ↦ absurd (let none : words s i ≡ [] = ap words_in (row_past s.instances i past) in let n : slice_get (words s i) at ≡ None = no_item (words s i) at none in cc)
     ]
 

@@ -36,6 +36,9 @@ entries_top s t f on_top =
 pub client_within : (L : Load) (s : State) (t : ℕ) (thread : Thread) → Laid L s → row s.threads t ≡ Some thread → (0 < t) × (t ≤ length L.clients)
 client_within L s t thread laid of = let w = row_within s.threads t thread of in (w.0, (let e = laid.threads in let b = w.1 in omega arith))
 
+pub client_stack : (L : Load) (s : State) (t : ℕ) (thread : Thread) → Laid L s → row s.threads t ≡ Some thread → (0 < t) × (t ≤ length s.stacks)
+client_stack L s t thread laid of = let w = client_within L s t thread laid of in (w.0, (let e = laid.stacks in let b = w.1 in omega (arith, e, b)))
+
 -- stacks, with this stack and thread of a client
 abbrev pub stacks_with : State → ℕ → List StackFrame → Thread → ℕ → List LedgerFrame
 stacks_with s t frames thread u = entries u (frames_of (row (slice_set s.stacks (t - 1) frames) u)) (row (slice_set s.threads (t - 1) thread) u)

@@ -1,5 +1,6 @@
 -- What a step makes of the stack and the thread of one client. Those of the others stay.
 use Rattle.std.proofs.Common.{◌≡◌, ◌≢◌, ℕ, ◌-◌, ◌<◌, ◌≤◌, Bool, true, false, List, [], ◌∷◌, ◌++◌, length, Option, Some, None, refl, ap, sym, subst, ◌∙◌, arith}
+use Rattle.std.proofs.lemmas.List.{length-set}
 use Rattle.rl_defs.specs.declared.frame.Answer.{Answer}
 use Rattle.rl_defs.specs.declared.load.Load.{Load}
 use Rattle.rl_defs.specs.State.{State, StackFrame, Thread, row, is_live, stack, frames_of, with_stack, with_thread}
@@ -7,7 +8,7 @@ use Rattle.rl_defs.specs.Wanted.{top}
 use Rattle.rl_defs.specs.Step.{after_command}
 use Rattle.rl_defs.specs.Machine.Frames.{below_top, popped, with_top, with_body, results_in, AnswersClient, AnswersFrame, AnswersTop, Replies}
 use Rattle.machine_laws.specs.Shape.{Laid}
-use Rattle.machine_laws.proofs.Rows.{row_within, row_set_same, row_set_other, length_set}
+use Rattle.machine_laws.proofs.Rows.{row_within, row_set_same, row_set_other}
 use Rattle.machine_laws.proofs.Stacks.{top_none}
 use Rattle.machine_laws.proofs.FrameRows.{answered_same}
 
@@ -38,7 +39,7 @@ pub turned_thread : (s m : State) (t : ℕ) (frames : List StackFrame) (old new 
 turned_thread s m t frames old new is = record {
   some = is.some;
   stacks = is.stacks;
-  threads = (let le = is.threads in let n = length_set m.threads (t - 1) new in omega (arith, le, n));
+  threads = (let le = is.threads in let n = length-set m.threads (t - 1) new in omega (arith, le, n));
   here = is.here;
   thread = row_set_same m.threads t new is.some is.threads;
   other_stacks = is.other_stacks;
@@ -48,7 +49,7 @@ turned_thread s m t frames old new is = record {
 pub turned_stack : (s m : State) (t : ℕ) (frames new : List StackFrame) (thread : Thread) → Turned s m t frames thread → Turned s (with_stack m t new) t new thread
 turned_stack s m t frames new thread is = record {
   some = is.some;
-  stacks = (let le = is.stacks in let n = length_set m.stacks (t - 1) new in omega (arith, le, n));
+  stacks = (let le = is.stacks in let n = length-set m.stacks (t - 1) new in omega (arith, le, n));
   threads = is.threads;
   here = ap frames_of (row_set_same m.stacks t new is.some is.stacks);
   thread = is.thread;
@@ -97,15 +98,3 @@ replied_as L s m z t a frames thread is replies = go (top (stack m t)) refl repl
     go : (f : Option StackFrame) → top (stack m t) ≡ f → AnswersTop L m t a f z → RepliedAs L s z t a frames thread
     go None e r = client e r
     go (Some f) e r = frame f e (is_live m f.instance) r
-
--- an answer changes no object
-pub objects_replied : (L : Load) (m z : State) (t : ℕ) (a : Answer) → Replies L m t a z → z.objects ≡ m.objects
-objects_replied L m z t a replies = go (top (stack m t)) replies
-  where
-    frame : (f : StackFrame) (b : Bool) → AnswersFrame L m t f a b z → z.objects ≡ m.objects
-    frame f true r = ap (λ (y : State). y.objects) r.becomes
-    frame f false r = ap (λ (y : State). y.objects) r
-
-    go : (f : Option StackFrame) → AnswersTop L m t a f z → z.objects ≡ m.objects
-    go None r = ap (λ (y : State). y.objects) r.becomes
-    go (Some f) r = frame f (is_live m f.instance) r

@@ -3,10 +3,10 @@ use Rattle.std.proofs.Common.{◌≡◌, ◌≢◌, ℕ, zero, suc, ◌+◌, ◌
 use Rattle.std.proofs.lemmas.Bool.{cases_Bool, eqb-true}
 use Rattle.rl_defs.specs.declared.values.Owner.{Owner}
 use Rattle.rl_defs.specs.declared.load.Load.{Load}
-use Rattle.rl_defs.specs.State.{State, Object, Placement}
+use Rattle.rl_defs.specs.State.{State, Object}
 use Rattle.rl_defs.specs.Loans.{object_of, is_doomed, sweep}
 use Rattle.rl_defs.specs.Crossing.{has, owned_by}
-use Rattle.rl_defs.specs.Machine.Objects.{fresh_object, with_new, without, with_cells, with_cells_of, with_placement, placed}
+use Rattle.rl_defs.specs.Machine.Objects.{fresh_object, with_new, without, with_cells, with_cells_of}
 use Rattle.rl_defs.specs.Machine.CallRows.{passed_to}
 use Rattle.rl_defs.specs.Machine.NativeFits.{types_of, struct_or_none}
 use Rattle.machine_laws.specs.Shape.{Laid}
@@ -26,9 +26,6 @@ Stays P s z = (o : ℕ) (y : Object) → object_of z o ≡ Some y → Was P s o 
 -- nothing about it, the count of its cells, its cells and place
 abbrev pub AnyHow : Object → Object → Type 0
 AnyHow x y = Unit {0}
-
-abbrev pub SameCount : Object → Object → Type 0
-SameCount x y = length x.cells ≡ length y.cells
 
 abbrev pub Unchanged : Object → Object → Type 0
 Unchanged x y = x ≡ y
@@ -86,9 +83,6 @@ stays_chosen P same s test g number ty alike = stays_map P s (λ x. if test x th
 
 pub stays_given : (P : Object → Object → Type 0) → ((x : Object) → P x x) → ((x : Object) (w : Owner) → P x (owned_by w x)) → (s : State) (w : Owner) (os : List ℕ) → Stays P s (passed_to w os s)
 stays_given P same alike s w os o y is = stays_chosen P same s (λ x. has os x.number) (owned_by w) (λ x. refl) (λ x. refl) (λ x. alike x w) o y is
-
-pub stays_placed : (P : Object → Object → Type 0) → ((x : Object) → P x x) → ((x : Object) (p : Placement) → P x (with_placement p x)) → (s : State) (v : ℕ) (p : Placement) → Stays P s (placed v p s)
-stays_placed P same alike s v p o y is = stays_chosen P same s (λ x. x.number == v) (with_placement p) (λ x. refl) (λ x. refl) (λ x. alike x p) o y is
 
 pub stays_cells : (P : Object → Object → Type 0) → ((x : Object) → P x x) → (change : List ℕ → List ℕ) → ((x : Object) → P x (with_cells change x)) → (s : State) (v : ℕ) → Stays P s (with_cells_of v change s)
 stays_cells P same change alike s v o y is = stays_chosen P same s (λ x. x.number == v) (with_cells change) (λ x. refl) (λ x. refl) alike o y is

@@ -1,37 +1,35 @@
 -- What a frame receives isn't lent to it.
-use Rattle.std.proofs.Common.{◌≡◌, ℕ, zero, suc, ◌<◌, ◌≤◌, Bool, true, false, cond, List, [], ◌∷◌, ◌++◌, length, Option, Some, None, slice_get, refl, ap, sym, subst, ◌∙◌, arith, inl, inr}
+use Rattle.std.proofs.Common.{◌≡◌, ℕ, zero, suc, ◌<◌, ◌≤◌, true, false, List, [], ◌∷◌, ◌++◌, length, Option, Some, None, slice_get, sym, subst, arith, inl, inr}
 use Rattle.std.specs.List.{slice_index_or}
-use Rattle.std.proofs.lemmas.Bool.{cases_Bool, eq-eqb}
+use Rattle.std.proofs.lemmas.Bool.{cases_Bool, eq-eqb, false_from_ne_true}
 use Rattle.rl_defs.specs.declared.values.Value.{Value}
 use Rattle.rl_defs.specs.declared.values.Value.TheVariants as value
 use Rattle.rl_defs.specs.declared.values.Owner.{Owner}
 use Rattle.rl_defs.specs.declared.values.Owner.TheVariants as owner
 use Rattle.rl_defs.specs.declared.frame.FrameBody.TheVariants as body
 use Rattle.rl_defs.specs.declared.load.Load.{Load}
-use Rattle.rl_defs.specs.State.{State, StackFrame, Placement, Root, Hung, is_live, stack}
+use Rattle.rl_defs.specs.State.{State, StackFrame, Root, Hung, is_live, stack}
 use Rattle.rl_defs.specs.Loans.{count}
 use Rattle.rl_defs.specs.Crossing.{has}
 use Rattle.rl_defs.specs.Wanted.{top}
 use Rattle.rl_defs.specs.Machine.Frames.{below_top}
 use Rattle.rl_defs.specs.Machine.Seen.{slots, content, in_slot}
 use Rattle.rl_defs.specs.Machine.Sound.{own_of, own_of_body}
-use Rattle.machine_laws.specs.Ledger.{LedgerFrame, Ledger, alive}
 use Rattle.machine_laws.specs.LedgerOf.{frame_entry, ledger_of}
-use Rattle.machine_laws.specs.LedgerSound.{in_slots, own_in, is_of, Covered, Owned}
+use Rattle.machine_laws.specs.LedgerSound.{in_slots, own_in, Covered, Owned}
 use Rattle.machine_laws.specs.Shape.{Laid}
 use Rattle.machine_laws.specs.Registers.{own}
 use Rattle.machine_laws.proofs.Objects.{found_below}
 use Rattle.machine_laws.proofs.Stacks.{top_splits}
 use Rattle.machine_laws.proofs.Tops.{under, entries_top}
 use Rattle.machine_laws.proofs.Seats.{seats, IsIn}
-use Rattle.machine_laws.proofs.Present.{sum_least, lent_root, own_root, own_or_lent, seated}
-use Rattle.machine_laws.proofs.OwnEntries.{has_counted}
+use Rattle.machine_laws.proofs.Present.{lent_root, own_root, own_or_lent, seated}
 use Rattle.machine_laws.proofs.Retyping.{register_has}
+use Rattle.machine_laws.proofs.Sums.{sum_least}
+use Rattle.machine_laws.proofs.Counts.{has_counted}
+use Rattle.machine_laws.proofs.Owners.{is_of_root, is_of_le}
 
-pub not_has : (xs : List ℕ) (o : ℕ) → (has xs o ≡ true → ⊥) → has xs o ≡ false
-not_has xs o out = elim (cases_Bool (has xs o)) [ inl e ↦ absurd (out e) | inr e ↦ e ]
-
-in_slots_some : (contents : List (Option ℕ)) (k o : ℕ) → content (slice_get contents k) ≡ Some o → 0 < in_slots o contents
+pub in_slots_some : (contents : List (Option ℕ)) (k o : ℕ) → content (slice_get contents k) ≡ Some o → 0 < in_slots o contents
 in_slots_some [] k o is = absurd cc
 in_slots_some (None ∷ contents) zero o is = absurd cc
 in_slots_some (Some q ∷ contents) zero o is = let e : q ≡ o = cc in rw (eq-eqb q o e) (omega arith)
@@ -44,7 +42,7 @@ module _ (L : Load) (s : State) (laid : Laid L s) (owned : Owned L (ledger_of L 
 
   -- the next object isn't lent
   pub next_unlent : has f.lent s.next_object ≡ false
-  next_unlent = not_has f.lent s.next_object (λ lent. (
+  next_unlent = false_from_ne_true (has f.lent s.next_object) (λ lent. (
       let r = lent_root L s laid owned t s.next_object (below_top (stack s t)) [] f split lent in
       let x = seated s s.next_object (Root r.0) r.1 in
       let b = found_below 0 s.next_object s.next_object s.objects x.0 laid.objects x.1 in
@@ -52,35 +50,23 @@ module _ (L : Load) (s : State) (laid : Laid L s) (owned : Owned L (ledger_of L 
 
   -- nor is one that hangs
   pub hung_unlent : (v p k : ℕ) → seats s v ≡ Some (Hung p k) → has f.lent v ≡ false
-  hung_unlent v p k hung = not_has f.lent v (λ lent. (let r = lent_root L s laid owned t v (below_top (stack s t)) [] f split lent in let e = r.1 in cc (hung, e)))
+  hung_unlent v p k hung = false_from_ne_true (has f.lent v) (λ lent. (let r = lent_root L s laid owned t v (below_top (stack s t)) [] f split lent in let e = r.1 in cc (hung, e)))
 
   -- nor is one in a slot of the frame's own instance
   pub slot_unlent : (k o : ℕ) → is_live s f.instance ≡ true → in_slot s f.instance k ≡ Some o → has f.lent o ≡ false
-  slot_unlent k o lives full = not_has f.lent o (λ lent. (
+  slot_unlent k o lives full = false_from_ne_true (has f.lent o) (λ lent. (
       let r = lent_root L s laid owned t o (below_top (stack s t)) [] f split lent in
       let w : Owner = owner.Instance f.instance in
       let w' = Rattle.machine_laws.proofs.Present.stack_within L s laid owned t (below_top (stack s t)) [] f split in
       let slot = in_slots_some (slots s f.instance) k o full in
       let once = owned.once w o lives in
       let covered : Covered (is_live s) (seats s) (frame_entry f ∷ under s t) = subst (Covered (is_live s) (seats s)) (entries_top s t f on_top) (owned.covered t) in
-      let mine : seats s o ≡ Some (Root w) = root (seats s o) refl (let a : 0 < cond (is_of w (seats s o)) 1 0 = omega (arith, slot, once) in a) in
+      let mine : seats s o ≡ Some (Root w) = is_of_root w (seats s o) (omega (arith, slot, once)) in
       let below = covered.0 o w (has_counted f.lent o lent) mine lives in
       let in_stack : own_in w o (under s t) ≤ own_in w o ((ledger_of L s).stack t) = (let e = entries_top s t f on_top in subst (λ fs. own_in w o (under s t) ≤ own_in w o fs) (sym e) (omega arith)) in
       let in_all = sum_least (λ u. own_in w o ((ledger_of L s).stack u)) (length L.clients) t w'.0 w'.1 in
-      let most = at_most (is_of w (seats s o)) in
+      let most = is_of_le w (seats s o) in
       omega (arith, slot, once, below, in_stack, in_all, most)))
-    where
-      at_most : (b : Bool) → cond b 1 0 ≤ 1
-      at_most true = omega arith
-      at_most false = omega arith
-
-      root : (p : Option Placement) → seats s o ≡ p → 0 < cond (is_of (owner.Instance f.instance) p) 1 0 → seats s o ≡ Some (Root (owner.Instance f.instance))
-      root None e pos = absurd (omega (arith, pos))
-      root (Some (Root v)) e pos = elim (cases_Bool (Rattle.machine_laws.specs.Ledger.same_owner (owner.Instance f.instance) v)) [
-        | inl same ↦ e ∙ ap (λ x. Some (Root x)) (sym (Rattle.machine_laws.proofs.Present.same_is (owner.Instance f.instance) v same))
-        | inr other ↦ absurd (let z : ◌≡◌ {A = ℕ} (cond (Rattle.machine_laws.specs.Ledger.same_owner (owner.Instance f.instance) v) 1 0) 0 = rw other refl in omega (arith, pos, z))
-      ]
-      root (Some (Hung p j)) e pos = absurd (omega (arith, pos))
 
   -- the objects of registers that have as many own ones as the frame's are in the heap
   pub registers_there : (regs settled : List (Option Value)) (line : ℕ) → f.body ≡ body.Code line regs → is_live s f.instance ≡ true → ((p : ℕ) → count p (own f.lent settled) ≡ count p (own f.lent regs))

@@ -7,7 +7,7 @@ use Rattle.rl_defs.specs.declared.load.ScriptArg.{ScriptArg}
 use Rattle.rl_defs.specs.declared.load.Command.{Command}
 use Rattle.rl_defs.specs.declared.load.Command.TheVariants as command
 use Rattle.rl_defs.specs.State.{State, StackFrame, Thread, row}
-use Rattle.rl_defs.specs.Wanted.{Want, Nothing, Finishes, Skips, Commands, Acts, arg_of}
+use Rattle.rl_defs.specs.Wanted.{Want, Commands, Acts, arg_of}
 use Rattle.rl_defs.specs.Crossing.{Wish, client_wish}
 use Rattle.rl_defs.specs.Machine.Wants.{wanted}
 use Rattle.rl_defs.specs.Machine.Calling.{wish, wish_in, wish_of, frame_wish}
@@ -41,32 +41,15 @@ wish_as L s t w e = by_row (row s.threads t) refl
         of_command (command.Call x m given names) is h =
             let same : client_wish L s t thread x m (map (arg_of thread.names) given) ≡ w = cc in
             subst (λ v. ClientWish L s t v ⊎ FrameWish L s t v) same (inl (record { thread = thread; of = of; given = given; names = names; wants = is; is = refl }))
-        of_command (command.Let name ty values) is h = absurd cc
-        of_command (command.Text name ty bytes) is h = absurd cc
-        of_command (command.Show name) is h = absurd cc
-        of_command (command.Drop name) is h = absurd cc
-        of_command (command.Kill target) is h = absurd cc
+        of_command other is h = absurd cc
 
         of_action : (act : Action) (fuel : ℕ) (frame : StackFrame) → wanted L s t ≡ Acts act fuel frame → wish_of L s t thread (Acts act fuel frame) ≡ Some w → ClientWish L s t w ⊎ FrameWish L s t w
         of_action (action.Call x m args) fuel frame is h =
             let same : frame_wish L s t thread x m args fuel frame ≡ w = cc in
             subst (λ v. ClientWish L s t v ⊎ FrameWish L s t v) same (inr (record { thread = thread; of = of; fuel = fuel; frame = frame; wants = is; is = refl }))
-        of_action (action.New ty) fuel frame is h = absurd cc
-        of_action (action.Drop o) fuel frame is h = absurd cc
-        of_action (action.Set o k values) fuel frame is h = absurd cc
-        of_action (action.Wput k v) fuel frame is h = absurd cc
-        of_action (action.Take k) fuel frame is h = absurd cc
-        of_action (action.Put k o) fuel frame is h = absurd cc
-        of_action (action.DevGet o b) fuel frame is h = absurd cc
-        of_action (action.DevPut b o) fuel frame is h = absurd cc
-        of_action (action.Hang o k v) fuel frame is h = absurd cc
-        of_action (action.Unhang o k) fuel frame is h = absurd cc
-        of_action (action.Ret results) fuel frame is h = absurd cc
-        of_action (action.Trap cause) fuel frame is h = absurd cc
+        of_action other fuel frame is h = absurd cc
 
         by_want : (want : Want) → wanted L s t ≡ want → wish_of L s t thread (wanted L s t) ≡ Some w → ClientWish L s t w ⊎ FrameWish L s t w
-        by_want Nothing is h = absurd (let h' : wish_of L s t thread Nothing ≡ Some w = rw is at h in cc)
-        by_want Finishes is h = absurd (let h' : wish_of L s t thread Finishes ≡ Some w = rw is at h in cc)
-        by_want (Skips k) is h = absurd (let h' : wish_of L s t thread (Skips k) ≡ Some w = rw is at h in cc)
         by_want (Commands next) is h = of_command next is (let h' : wish_of L s t thread (Commands next) ≡ Some w = rw is at h in h')
         by_want (Acts act fuel frame) is h = of_action act fuel frame is (let h' : wish_of L s t thread (Acts act fuel frame) ≡ Some w = rw is at h in h')
+        by_want other is h = absurd (let h' : wish_of L s t thread other ≡ Some w = rw is at h in cc)

@@ -4,8 +4,8 @@
 
 ghost use Rattle.rl_defs.specs.Machine.Laws.{HistoriesTellLaws, StatesAreSound, CallsCloseOnce, SomeThreadIsEnabled, EndsLeaveAlone, StepsAreDetermined};
 
-/// What the history of every run tells: each call is answered with its cause, each object has one owner at a time and is given up once, what
-/// is freed has a cause, and the words and slots of an instance change only by what it does itself.
+/// What the history of every run tells: each call, refusal, end, repeat and reload has its number and its cause; each object has one owner at a
+/// time and leaves the heap once at most; what is freed has a cause; and the words and slots of an instance change only by what it does itself.
 pub fn histories_tell_laws()
     ensures { HistoriesTellLaws }
 {}
@@ -17,12 +17,12 @@ pub fn states_are_sound()
     ensures { StatesAreSound }
 {}
 
-/// In a whole run each call is closed exactly once.
+/// In a whole run each call that was entered is closed exactly once.
 pub fn calls_close_once()
     ensures { CallsCloseOnce }
 {}
 
-/// No run is stuck: while a client isn't done, some thread is enabled.
+/// Threads never all wait: while a client isn't done, some thread is enabled, that is, not done and not waiting.
 pub fn some_thread_is_enabled()
     ensures { SomeThreadIsEnabled }
 {}
