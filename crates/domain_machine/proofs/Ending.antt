@@ -2,14 +2,15 @@
 use Rattle.std.proofs.Common.{◌≡◌, ℕ, ◌+◌, ◌-◌, Bool, true, false, List, [], ◌∷◌, ◌++◌, length, length-append, Option, Some, None, refl, sym, ap, ◌∙◌, subst, arith}
 use Rattle.std.specs.Prelude.{slice_get, slice_set, IfSome}
 use Rattle.std.specs.List.{slice_index_or}
-use Rattle.rl_defs.specs.declared.load.Load.{Load}
-use Rattle.rl_defs.specs.declared.entry.Entry.{Entry}
-use Rattle.rl_defs.specs.declared.entry.Entry.TheVariants as entry
-use Rattle.rl_defs.specs.State.{State, StackFrame, Thread, Instance}
-use Rattle.rl_defs.specs.Wanted.{Finishes, Commands, wanted, by_command}
-use Rattle.rl_defs.specs.Run.{GoesOn}
-use Rattle.rl_defs.specs.Step.{Step}
-use Rattle.rl_defs.specs.Small.{small_load, command_of}
+use Rattle.rl_defs.specs.declared.load.LoadRows.{LoadRows}
+use Rattle.machine_defs.specs.declared.entry.Entry.{Entry}
+use Rattle.machine_defs.specs.declared.entry.Entry.TheVariants as entry
+use Rattle.machine_defs.specs.State.{State, StackFrame, Thread, Instance}
+use Rattle.machine_defs.specs.Wants.{Finishes, Commands, by_command}
+use Rattle.domain_machine.specs.Small.Wants.{wanted}
+use Rattle.domain_machine.specs.Small.Runs.{GoesOn}
+use Rattle.domain_machine.specs.Small.Steps.{Step}
+use Rattle.domain_machine.specs.Small.Form.{small_load, command_of}
 use Rattle.domain_machine.specs.Kept.{IsDone}
 use Rattle.domain_machine.specs.World.{IsKept}
 use Rattle.domain_machine.specs.SmallStates.{Asked, small_state, entries_made, nobody}
@@ -43,16 +44,16 @@ ended_thread : (u : ℕ) (t : List Thread) (fuel place : ℕ) → u ≡ 1 → t 
 ended_thread u t fuel place one is = rw (one, is) refl
 
 -- whether a client of a small state is done
-going_on : (numbers : List (ℕ × ℕ)) (i : List Instance) (a : List (List StackFrame)) (t : List Thread) (n place : ℕ) (asked : Asked) (fuel : ℕ) (done : Bool) (load : Load) (log : List Entry) (spare : ℕ) → lists i a t n ≡ small_state (small_load numbers) place asked fuel done → (IsDone (world load log spare i a t n) 1 → ⊥) → done ≡ false
+going_on : (numbers : List (ℕ × ℕ)) (i : List Instance) (a : List (List StackFrame)) (t : List Thread) (n place : ℕ) (asked : Asked) (fuel : ℕ) (done : Bool) (load : LoadRows) (log : List Entry) (spare : ℕ) → lists i a t n ≡ small_state (small_load numbers) place asked fuel done → (IsDone (world load log spare i a t n) 1 → ⊥) → done ≡ false
 going_on numbers i a t n place asked fuel true load log spare is going = absurd (going (let e : t ≡ record { fuel = fuel; place = place; names = []; done = true } ∷ [] = ap (λ (s : State). s.threads) is in rw e refl))
 going_on numbers i a t n place asked fuel false load log spare is going = refl
 
 -- `done`, where client u is the first
-pub ended_by : (u : ℕ) (load : Load) (log log' : List Entry) (spare spare' : ℕ) (i : List Instance) (a : List (List StackFrame)) (t t' : List Thread) (n : ℕ) → u ≡ 1 → IsKept (world load log spare i a t n) → wanted load (lists i a t n) 1 ≡ Finishes → (IsDone (world load log spare i a t n) 1 → ⊥) → log' ≡ log ++ entry.Done u ∷ [] → t' ≡ slice_set t (u - 1) (record (slice_index_or t (u - 1) nobody) { done = true }) → KeepsAndWent u load log log' spare spare' i a a t t' n n
+pub ended_by : (u : ℕ) (load : LoadRows) (log log' : List Entry) (spare spare' : ℕ) (i : List Instance) (a : List (List StackFrame)) (t t' : List Thread) (n : ℕ) → u ≡ 1 → IsKept (world load log spare i a t n) → wanted load (lists i a t n) 1 ≡ Finishes → (IsDone (world load log spare i a t n) 1 → ⊥) → log' ≡ log ++ entry.Done u ∷ [] → t' ≡ slice_set t (u - 1) (record (slice_index_or t (u - 1) nobody) { done = true }) → KeepsAndWent u load log log' spare spare' i a a t t' n n
 ended_by u load log log' spare spare' i a t t' n one k finishes going logged threads =
     let numbers : List (ℕ × ℕ) = k.small.numbers in
     let place : ℕ = k.at.place in
-    let wants : wanted (small_load numbers) (small_state (small_load numbers) place k.at.asked k.at.fuel k.at.done) 1 ≡ Finishes = subst (λ (s : State). wanted (small_load numbers) s 1 ≡ Finishes) k.at.is (subst (λ (l : Load). wanted l (lists i a t n) 1 ≡ Finishes) k.small.is finishes) in
+    let wants : wanted (small_load numbers) (small_state (small_load numbers) place k.at.asked k.at.fuel k.at.done) 1 ≡ Finishes = subst (λ (s : State). wanted (small_load numbers) s 1 ≡ Finishes) k.at.is (subst (λ (l : LoadRows). wanted l (lists i a t n) 1 ≡ Finishes) k.small.is finishes) in
     let none : IsPast numbers place k.at.asked = is_past numbers place k.at.asked k.at.fuel k.at.done k.at.charged wants in
     let undone : k.at.done ≡ false = going_on numbers i a t n place k.at.asked k.at.fuel k.at.done load log spare k.at.is going in
     let was : lists i a t n ≡ small_state (small_load numbers) place None k.at.fuel false = k.at.is ∙ same (small_load numbers) place k.at.asked k.at.fuel k.at.done none.none undone in
@@ -72,5 +73,5 @@ ended_by u load log log' spare spare' i a t t' n one k finishes going logged thr
       went = record { entries = _; step = step; log = logged; load = refl };
     }
   where
-    same : (L : Load) (place : ℕ) (asked : Asked) (fuel : ℕ) (done : Bool) → asked ≡ None → done ≡ false → small_state L place asked fuel done ≡ small_state L place None fuel false
+    same : (L : LoadRows) (place : ℕ) (asked : Asked) (fuel : ℕ) (done : Bool) → asked ≡ None → done ≡ false → small_state L place asked fuel done ≡ small_state L place None fuel false
     same L place asked fuel done none undone = rw (none, undone) refl

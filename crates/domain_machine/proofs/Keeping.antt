@@ -1,10 +1,10 @@
 -- What a world keeps, from its parts.
 use Rattle.std.proofs.Common.{◌≡◌, ℕ, true, false, List, [], ◌∷◌, length, None, refl, sym, ap, ◌∙◌, arith}
-use Rattle.rl_defs.specs.declared.load.Load.{Load}
-use Rattle.rl_defs.specs.declared.entry.Entry.{Entry}
-use Rattle.rl_defs.specs.State.{State, StackFrame, Thread, Instance, start}
-use Rattle.rl_defs.specs.Run.{Begins}
-use Rattle.rl_defs.specs.Small.{IsSmallLoad, small_load}
+use Rattle.rl_defs.specs.declared.load.LoadRows.{LoadRows}
+use Rattle.machine_defs.specs.declared.entry.Entry.{Entry}
+use Rattle.machine_defs.specs.State.{State, StackFrame, Thread, Instance, start}
+use Rattle.domain_machine.specs.Small.Runs.{Begins}
+use Rattle.domain_machine.specs.Small.Form.{IsSmallLoad, small_load}
 use Rattle.domain_machine.specs.World.{IsKept}
 use Rattle.domain_machine.specs.SmallStates.{small_state}
 use Rattle.domain_machine.proofs.SmallSteps.{starts, idle}
@@ -20,7 +20,7 @@ abbrev pub calc : Instance
 calc = record { load = 1; live = true; words = []; slots = [] }
 
 -- a world at the start
-pub fresh : (load : Load) (small : IsSmallLoad load) (log : List Entry) (spare : ℕ) (i : List Instance) (a : List (List StackFrame)) (t : List Thread) → log ≡ [] → i ≡ calc ∷ [] → a ≡ [] ∷ [] → t ≡ idle 0 0 ∷ [] → IsKept (record { load = load; log = log; spare = spare; state = lists i a t 1 }) × (lists i a t 1 ≡ start load)
+pub fresh : (load : LoadRows) (small : IsSmallLoad load) (log : List Entry) (spare : ℕ) (i : List Instance) (a : List (List StackFrame)) (t : List Thread) → log ≡ [] → i ≡ calc ∷ [] → a ≡ [] ∷ [] → t ≡ idle 0 0 ∷ [] → IsKept (record { load = load; log = log; spare = spare; state = lists i a t 1 }) × (lists i a t 1 ≡ start load)
 fresh load small log spare i a t e f g h =
     let state : lists i a t 1 ≡ small_state (small_load small.numbers) 0 None 0 false = same_lists i (calc ∷ []) a ([] ∷ []) t (idle 0 0 ∷ []) 1 1 f g h refl in
     let first : start load ≡ small_state (small_load small.numbers) 0 None 0 false = ap start small.is ∙ starts small.numbers in (

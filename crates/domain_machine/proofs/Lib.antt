@@ -1,3 +1,6 @@
+pub mod SmallRules
+pub mod SmallChecked
+pub mod WorkedRun
 pub mod Settling
 pub mod SmallSteps
 pub mod Keeping

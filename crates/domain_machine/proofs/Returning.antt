@@ -3,18 +3,19 @@ use Rattle.std.proofs.Common.{◌≡◌, ℕ, ◌+◌, ◌-◌, ◌<◌, Bool, t
 use Rattle.std.specs.Prelude.{slice_get, slice_set, IfSome}
 use Rattle.std.specs.List.{slice_index_or}
 use Rattle.std.proofs.lemmas.Option.{slice_get_within}
-use Rattle.rl_defs.specs.declared.load.Load.{Load}
+use Rattle.rl_defs.specs.declared.load.LoadRows.{LoadRows}
 use Rattle.rl_defs.specs.declared.values.Value.{Value}
 use Rattle.rl_defs.specs.declared.values.Value.TheVariants as value
-use Rattle.rl_defs.specs.declared.entry.Entry.{Entry}
-use Rattle.rl_defs.specs.declared.entry.Entry.TheVariants as entry
-use Rattle.rl_defs.specs.declared.frame.Action.TheVariants as action
-use Rattle.rl_defs.specs.State.{State, StackFrame, Thread, Instance, stack}
-use Rattle.rl_defs.specs.Registers as work
-use Rattle.rl_defs.specs.Crossing.{entered_frame, entry_registers}
-use Rattle.rl_defs.specs.Run.{GoesOn}
-use Rattle.rl_defs.specs.Step.{Step}
-use Rattle.rl_defs.specs.Small.{small_load}
+use Rattle.machine_defs.specs.declared.entry.Entry.{Entry}
+use Rattle.machine_defs.specs.declared.entry.Entry.TheVariants as entry
+use Rattle.machine_defs.specs.declared.frame.Action.TheVariants as action
+use Rattle.machine_defs.specs.State.{State, StackFrame, Thread, Instance, stack}
+use Rattle.domain_machine.specs.Small.Registers as work
+use Rattle.domain_machine.specs.Small.Calling.{entered_frame}
+use Rattle.machine_defs.specs.Arguments.{entry_registers}
+use Rattle.domain_machine.specs.Small.Runs.{GoesOn}
+use Rattle.domain_machine.specs.Small.Steps.{Step}
+use Rattle.domain_machine.specs.Small.Form.{small_load}
 use Rattle.domain_machine.specs.declared.registers.Before.{Before}
 use Rattle.domain_machine.specs.World.{IsKept}
 use Rattle.domain_machine.specs.Work.{frame_settles, FrameSettlesTo, PopsFrame}
@@ -59,17 +60,17 @@ pub record Comes (before : Option Before) (p : ℕ × ℕ) : Type 0 where
   pub returns : there.action ≡ action.Ret (value.Num (sum_of p) ∷ [])
   pub fuel : there.fuel ≡ 9998
 
-comes : (load : Load) (fuel : ℕ) (frame : StackFrame) (before : Option Before) (p : ℕ × ℕ) → frame_settles load fuel frame frame.body ≡ sum_returned p → FrameSettlesTo load fuel frame before → Comes before p
+comes : (load : LoadRows) (fuel : ℕ) (frame : StackFrame) (before : Option Before) (p : ℕ × ℕ) → frame_settles load fuel frame frame.body ≡ sum_returned p → FrameSettlesTo load fuel frame before → Comes before p
 comes load fuel frame None p is settled = absurd (let e : work.Nowhere ≡ sum_returned p = sym settled ∙ is in let x : ⊥ = cc in x)
 comes load fuel frame (Some b) p is settled =
     let e : work.Before b.action b.fuel b.line b.registers ≡ sum_returned p = sym settled ∙ is in
     record { there = b; is = refl; returns = let x : b.action ≡ action.Ret (value.Num (sum_of p) ∷ []) = cc in x; fuel = let x : b.fuel ≡ 9998 = cc in x }
 
-open_state : (L : Load) (place : ℕ) (asked : Asked) (fuel : ℕ) (done : Bool) (p : ℕ × ℕ) → asked ≡ Some p → fuel ≡ 9999 → done ≡ false → small_state L place asked fuel done ≡ small_state L place (Some p) 9999 false
+open_state : (L : LoadRows) (place : ℕ) (asked : Asked) (fuel : ℕ) (done : Bool) (p : ℕ × ℕ) → asked ≡ Some p → fuel ≡ 9999 → done ≡ false → small_state L place asked fuel done ≡ small_state L place (Some p) 9999 false
 open_state L place asked fuel done p some charged going = rw (some, charged, going) refl
 
 -- the world as a call of it returns
-pub record Open (load : Load) (log : List Entry) (spare : ℕ) (i : List Instance) (a a' : List (List StackFrame)) (t : List Thread) (n : ℕ) (frame : StackFrame) (k : IsKept (world load log spare i a t n)) : Type 0 where
+pub record Open (load : LoadRows) (log : List Entry) (spare : ℕ) (i : List Instance) (a a' : List (List StackFrame)) (t : List Thread) (n : ℕ) (frame : StackFrame) (k : IsKept (world load log spare i a t n)) : Type 0 where
   pub p : ℕ × ℕ
   pub here : slice_get k.small.numbers k.at.place ≡ Some p
   pub was : lists i a t n ≡ small_state (small_load k.small.numbers) k.at.place (Some p) 9999 false
@@ -77,7 +78,7 @@ pub record Open (load : Load) (log : List Entry) (spare : ℕ) (i : List Instanc
   pub frame_is : frame ≡ entered_frame (small_load k.small.numbers) (k.at.place + 1) 1 1 0 (args_of p)
   pub left : a' ≡ [] ∷ []
 
-opens : (load : Load) (log : List Entry) (spare : ℕ) (i : List Instance) (a a' : List (List StackFrame)) (t : List Thread) (n : ℕ) (frame : StackFrame) (k : IsKept (world load log spare i a t n)) → 0 < length (stack (lists i a t n) 1) → PopsFrame a a' 0 frame → Open load log spare i a a' t n frame k
+opens : (load : LoadRows) (log : List Entry) (spare : ℕ) (i : List Instance) (a a' : List (List StackFrame)) (t : List Thread) (n : ℕ) (frame : StackFrame) (k : IsKept (world load log spare i a t n)) → 0 < length (stack (lists i a t n) 1) → PopsFrame a a' 0 frame → Open load log spare i a a' t n frame k
 opens load log spare i a a' t n frame k calling popped =
     let numbers : List (ℕ × ℕ) = k.small.numbers in
     let place : ℕ = k.at.place in
@@ -91,7 +92,7 @@ opens load log spare i a a' t n frame k calling popped =
     record { p = o.p; here = o.here; was = was; few = few; frame_is = one.1; left = popped.now ∙ (rw (has.stacks, one.0) refl) }
 
 -- what the row does with the register work of the frame, where client u is the first
-pub comes_by : (u : ℕ) (load : Load) (log : List Entry) (spare : ℕ) (i : List Instance) (a a' : List (List StackFrame)) (t : List Thread) (n : ℕ) (frame : StackFrame) (before : Option Before) → u ≡ 1 → (k : IsKept (world load log spare i a t n)) → 0 < length (stack (lists i a t n) 1) → PopsFrame a a' (u - 1) frame → FrameSettlesTo load ((slice_index_or t (u - 1) nobody).fuel) frame before → (o : Open load log spare i a a' t n frame k) × Comes before o.p
+pub comes_by : (u : ℕ) (load : LoadRows) (log : List Entry) (spare : ℕ) (i : List Instance) (a a' : List (List StackFrame)) (t : List Thread) (n : ℕ) (frame : StackFrame) (before : Option Before) → u ≡ 1 → (k : IsKept (world load log spare i a t n)) → 0 < length (stack (lists i a t n) 1) → PopsFrame a a' (u - 1) frame → FrameSettlesTo load ((slice_index_or t (u - 1) nobody).fuel) frame before → (o : Open load log spare i a a' t n frame k) × Comes before o.p
 comes_by u load log spare i a a' t n frame before one k calling popped settled =
     let popped' : PopsFrame a a' 0 frame = rw one at popped in
     let settled' : FrameSettlesTo load ((slice_index_or t 0 nobody).fuel) frame before = subst (λ (v : ℕ). FrameSettlesTo load ((slice_index_or t (v - 1) nobody).fuel) frame before) one settled in
@@ -101,7 +102,7 @@ comes_by u load log spare i a a' t n frame before one k calling popped settled =
     let is : frame_settles load ((slice_index_or t 0 nobody).fuel) frame frame.body ≡ sum_returned o.p = settles_as load (small_load k.small.numbers) _ frame _ o.p k.small.is fuel o.frame_is (settles k.small.numbers (k.at.place + 1) o.p) in
     (o, comes load _ frame before o.p is settled')
   where
-    settles_as : (A B : Load) (f : ℕ) (x y : StackFrame) (p : ℕ × ℕ) → A ≡ B → f ≡ 9999 → x ≡ y → frame_settles B 9999 y y.body ≡ sum_returned p → frame_settles A f x x.body ≡ sum_returned p
+    settles_as : (A B : LoadRows) (f : ℕ) (x y : StackFrame) (p : ℕ × ℕ) → A ≡ B → f ≡ 9999 → x ≡ y → frame_settles B 9999 y y.body ≡ sum_returned p → frame_settles A f x x.body ≡ sum_returned p
     settles_as A B f x y p load fuel frame is = rw (load, fuel, frame) is
 
 same_entry : (u v c d : ℕ) (rs ss : List Value) → u ≡ v → c ≡ d → rs ≡ ss → ◌≡◌ {A = List Entry} (entry.Ret u c rs ∷ []) (entry.Ret v d ss ∷ [])
@@ -112,7 +113,7 @@ idle_after : (u : ℕ) (t : List Thread) (fuel place : ℕ) → u ≡ 1 → t �
 idle_after u t fuel place one threads is = rw (one, threads, is) refl
 
 -- `ret`, where client u is the first
-pub returned_by : (u : ℕ) (load : Load) (log log' : List Entry) (spare spare' : ℕ) (i : List Instance) (a a' : List (List StackFrame)) (t t' : List Thread) (n : ℕ) (frame : StackFrame) (before : Option Before) (results : List Value) (fuel : ℕ) → u ≡ 1 → IsKept (world load log spare i a t n) → 0 < length (stack (lists i a t n) 1) → PopsFrame a a' (u - 1) frame → FrameSettlesTo load ((slice_index_or t (u - 1) nobody).fuel) frame before → IfSome before (λ b. (b.action ≡ action.Ret results) × (b.fuel ≡ fuel)) → log' ≡ log ++ entry.Ret u frame.call results ∷ [] → t' ≡ slice_set t (u - 1) (command_ended (slice_index_or t (u - 1) nobody) fuel) → KeepsAndWent u load log log' spare spare' i a a' t t' n n
+pub returned_by : (u : ℕ) (load : LoadRows) (log log' : List Entry) (spare spare' : ℕ) (i : List Instance) (a a' : List (List StackFrame)) (t t' : List Thread) (n : ℕ) (frame : StackFrame) (before : Option Before) (results : List Value) (fuel : ℕ) → u ≡ 1 → IsKept (world load log spare i a t n) → 0 < length (stack (lists i a t n) 1) → PopsFrame a a' (u - 1) frame → FrameSettlesTo load ((slice_index_or t (u - 1) nobody).fuel) frame before → IfSome before (λ b. (b.action ≡ action.Ret results) × (b.fuel ≡ fuel)) → log' ≡ log ++ entry.Ret u frame.call results ∷ [] → t' ≡ slice_set t (u - 1) (command_ended (slice_index_or t (u - 1) nobody) fuel) → KeepsAndWent u load log log' spare spare' i a a' t t' n n
 returned_by u load log log' spare spare' i a a' t t' n frame before results fuel one k calling popped settled gives logged threads =
     let both = comes_by u load log spare i a a' t n frame before one k calling popped settled in
     let o : Open load log spare i a a' t n frame k = both.0 in

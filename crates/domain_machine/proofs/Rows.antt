@@ -3,16 +3,17 @@ use Rattle.std.proofs.Common.{◌≡◌, ℕ, ◌+◌, ◌-◌, Bool, true, fals
 use Rattle.std.specs.Prelude.{slice_get, slice_set, IfSome}
 use Rattle.std.specs.List.{slice_index_or}
 use Rattle.std.proofs.lemmas.Option.{slice_get_within}
-use Rattle.rl_defs.specs.declared.load.Load.{Load}
-use Rattle.rl_defs.specs.declared.values.Arg.{Arg}
-use Rattle.rl_defs.specs.declared.entry.Entry.{Entry}
-use Rattle.rl_defs.specs.declared.entry.Entry.TheVariants as entry
-use Rattle.rl_defs.specs.State.{State, StackFrame, Thread, Instance}
-use Rattle.rl_defs.specs.Wanted.{Finishes, Commands, wanted, by_command}
-use Rattle.rl_defs.specs.Crossing.{entered_frame}
-use Rattle.rl_defs.specs.Run.{GoesOn}
-use Rattle.rl_defs.specs.Step.{Step}
-use Rattle.rl_defs.specs.Small.{small_load, command_of}
+use Rattle.rl_defs.specs.declared.load.LoadRows.{LoadRows}
+use Rattle.machine_defs.specs.declared.values.Arg.{Arg}
+use Rattle.machine_defs.specs.declared.entry.Entry.{Entry}
+use Rattle.machine_defs.specs.declared.entry.Entry.TheVariants as entry
+use Rattle.machine_defs.specs.State.{State, StackFrame, Thread, Instance}
+use Rattle.machine_defs.specs.Wants.{Finishes, Commands, by_command}
+use Rattle.domain_machine.specs.Small.Wants.{wanted}
+use Rattle.domain_machine.specs.Small.Calling.{entered_frame}
+use Rattle.domain_machine.specs.Small.Runs.{GoesOn}
+use Rattle.domain_machine.specs.Small.Steps.{Step}
+use Rattle.domain_machine.specs.Small.Form.{small_load, command_of}
 use Rattle.domain_machine.specs.Kept.{Kept}
 use Rattle.domain_machine.specs.Turns.{Went}
 use Rattle.domain_machine.specs.World.{IsKept}
@@ -20,11 +21,11 @@ use Rattle.domain_machine.specs.SmallStates.{Asked, NextCalls, args_of, small_st
 use Rattle.domain_machine.proofs.SmallSteps.{calls, command_at, idle}
 use Rattle.domain_machine.proofs.Keeping.{lists, same_lists, calc}
 
-abbrev pub world : Load → List Entry → ℕ → List Instance → List (List StackFrame) → List Thread → ℕ → Kept
+abbrev pub world : LoadRows → List Entry → ℕ → List Instance → List (List StackFrame) → List Thread → ℕ → Kept
 world load log spare i a t n = record { load = load; log = log; spare = spare; state = lists i a t n }
 
 -- the same step of equal states
-pub same_step : (A B : Load) (s s' z z' : State) (es fs : List Entry) → A ≡ B → s ≡ s' → z ≡ z' → es ≡ fs → Step B s' 1 fs z' → Step A s 1 es z
+pub same_step : (A B : LoadRows) (s s' z z' : State) (es fs : List Entry) → A ≡ B → s ≡ s' → z ≡ z' → es ≡ fs → Step B s' 1 fs z' → Step A s 1 es z
 same_step A B s s' z z' es fs load state after entries step = rw (load, state, after, entries) step
 
 -- a client that wants to call has no call open and is not done
@@ -74,18 +75,18 @@ parts numbers i a t n place asked fuel done is = record {
 }
 
 -- what a world keeps after a row, and that it went
-pub record KeepsAndWent (u : ℕ) (load : Load) (log log' : List Entry) (spare spare' : ℕ) (i : List Instance) (a a' : List (List StackFrame)) (t t' : List Thread) (n n' : ℕ) : Type 0 where
+pub record KeepsAndWent (u : ℕ) (load : LoadRows) (log log' : List Entry) (spare spare' : ℕ) (i : List Instance) (a a' : List (List StackFrame)) (t t' : List Thread) (n n' : ℕ) : Type 0 where
   pub keeps : IsKept (world load log' spare' i a' t' n')
   pub went : Went u (world load log spare i a t n) (world load log' spare' i a' t' n')
 
 -- `call`
-pub called : (load : Load) (log log' : List Entry) (spare spare' : ℕ) (i : List Instance) (a : List (List StackFrame)) (t : List Thread) (n x m : ℕ) (args : List Arg) (frame : StackFrame) → IsKept (world load log spare i a t n) → NextCalls (world load log spare i a t n) x m args → log' ≡ log ++ entry.Call 1 n x x m args ∷ [] → frame ≡ entered_frame load n x x m args → KeepsAndWent 1 load log log' spare spare' i a (slice_set a 0 (slice_index_or a 0 [] ++ frame ∷ [])) t (slice_set t 0 (record (slice_index_or t 0 nobody) { fuel = load.fuel - 1 })) n (n + 1)
+pub called : (load : LoadRows) (log log' : List Entry) (spare spare' : ℕ) (i : List Instance) (a : List (List StackFrame)) (t : List Thread) (n x m : ℕ) (args : List Arg) (frame : StackFrame) → IsKept (world load log spare i a t n) → NextCalls (world load log spare i a t n) x m args → log' ≡ log ++ entry.Call 1 n x x m args ∷ [] → frame ≡ entered_frame load n x x m args → KeepsAndWent 1 load log log' spare spare' i a (slice_set a 0 (slice_index_or a 0 [] ++ frame ∷ [])) t (slice_set t 0 (record (slice_index_or t 0 nobody) { fuel = load.fuel - 1 })) n (n + 1)
 called load log log' spare spare' i a t n x m args frame k next logged entered =
     let numbers : List (ℕ × ℕ) = k.small.numbers in
     let place : ℕ = k.at.place in
     let p : ℕ × ℕ = next.numbers in
     let small : load ≡ small_load numbers = k.small.is in
-    let wants : wanted (small_load numbers) (small_state (small_load numbers) place k.at.asked k.at.fuel k.at.done) 1 ≡ Commands (command_of p) = subst (λ (s : State). wanted (small_load numbers) s 1 ≡ Commands (command_of p)) k.at.is (subst (λ (l : Load). wanted l (lists i a t n) 1 ≡ Commands (command_of p)) small next.wants) in
+    let wants : wanted (small_load numbers) (small_state (small_load numbers) place k.at.asked k.at.fuel k.at.done) 1 ≡ Commands (command_of p) = subst (λ (s : State). wanted (small_load numbers) s 1 ≡ Commands (command_of p)) k.at.is (subst (λ (l : LoadRows). wanted l (lists i a t n) 1 ≡ Commands (command_of p)) small next.wants) in
     let idles : IsIdle numbers place k.at.asked k.at.done p = is_idle numbers place k.at.asked k.at.fuel k.at.done p k.at.charged k.at.past wants in
     let few : length log ≡ entries_made place None false = subst (λ (d : Bool). length log ≡ entries_made place None d) idles.going (subst (λ (q : Asked). length log ≡ entries_made place q k.at.done) idles.none k.few) in
     let was : lists i a t n ≡ small_state (small_load numbers) place None k.at.fuel false = rw (idles.none, idles.going) at k.at.is in
@@ -109,7 +110,7 @@ called load log log' spare spare' i a t n x m args frame k next logged entered =
     }
 
 -- the same, as the code has it: client u is the first
-pub called_by : (u : ℕ) (load : Load) (log log' : List Entry) (spare spare' : ℕ) (i : List Instance) (a a' : List (List StackFrame)) (t t' : List Thread) (n x m : ℕ) (args : List Arg) (frame : StackFrame) → u ≡ 1 → IsKept (world load log spare i a t n) → NextCalls (world load log spare i a t n) x m args → log' ≡ log ++ entry.Call u n x x m args ∷ [] → frame ≡ entered_frame load n x x m args → a' ≡ slice_set a (u - 1) (slice_index_or a (u - 1) [] ++ frame ∷ []) → t' ≡ slice_set t (u - 1) (record (slice_index_or t (u - 1) nobody) { fuel = load.fuel - 1 }) → KeepsAndWent u load log log' spare spare' i a a' t t' n (n + 1)
+pub called_by : (u : ℕ) (load : LoadRows) (log log' : List Entry) (spare spare' : ℕ) (i : List Instance) (a a' : List (List StackFrame)) (t t' : List Thread) (n x m : ℕ) (args : List Arg) (frame : StackFrame) → u ≡ 1 → IsKept (world load log spare i a t n) → NextCalls (world load log spare i a t n) x m args → log' ≡ log ++ entry.Call u n x x m args ∷ [] → frame ≡ entered_frame load n x x m args → a' ≡ slice_set a (u - 1) (slice_index_or a (u - 1) [] ++ frame ∷ []) → t' ≡ slice_set t (u - 1) (record (slice_index_or t (u - 1) nobody) { fuel = load.fuel - 1 }) → KeepsAndWent u load log log' spare spare' i a a' t t' n (n + 1)
 called_by u load log log' spare spare' i a a' t t' n x m args frame one k next logged entered stacks threads =
     let logged' : log' ≡ log ++ entry.Call 1 n x x m args ∷ [] = rw one at logged in
     let stacks' : a' ≡ slice_set a 0 (slice_index_or a 0 [] ++ frame ∷ []) = rw one at stacks in

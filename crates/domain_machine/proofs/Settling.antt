@@ -7,9 +7,9 @@ use Rattle.std.proofs.Math.Seq.{set-append_seam}
 use Rattle.std.proofs.lemmas.List.{take_more, length-take-le, length-map, map-append}
 use Rattle.rl_defs.specs.declared.bundle.Numbered.{Numbered}
 use Rattle.rl_defs.specs.declared.code.DomainLine.{DomainLine}
-use Rattle.rl_defs.specs.declared.frame.Action.{Action}
+use Rattle.machine_defs.specs.declared.frame.Action.{Action}
 use Rattle.rl_defs.specs.Domains.{Lines}
-use Rattle.rl_defs.specs.Registers as work
+use Rattle.domain_machine.specs.Small.Registers as work
 
 less : (f : ℕ) → suc f - 1 ≡ f
 less f = omega arith

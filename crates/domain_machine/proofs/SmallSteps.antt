@@ -4,19 +4,23 @@ use Rattle.std.specs.Prelude.{slice_get, map, replicate}
 use Rattle.std.specs.List.{flat_map}
 use Rattle.std.specs.Option.{option_map}
 use Rattle.std.proofs.lemmas.Option.{slice_get-map}
-use Rattle.rl_defs.specs.declared.load.Load.{Load}
+use Rattle.rl_defs.specs.declared.load.LoadRows.{LoadRows}
 use Rattle.rl_defs.specs.declared.load.Command.{Command}
 use Rattle.rl_defs.specs.declared.values.Value.{Value}
 use Rattle.rl_defs.specs.declared.values.Value.TheVariants as value
-use Rattle.rl_defs.specs.declared.entry.Entry.TheVariants as entry
-use Rattle.rl_defs.specs.State.{State, Thread, start, bound_by}
-use Rattle.rl_defs.specs.Wanted.{Finishes, Commands, Names, wanted, by_command}
-use Rattle.rl_defs.specs.Crossing.{Wish, wish, client_wish, wish_of, waits}
-use Rattle.rl_defs.specs.Step.{Step, bind, names_of}
-use Rattle.rl_defs.specs.Small.{small_load, command_of}
+use Rattle.machine_defs.specs.declared.entry.Entry.TheVariants as entry
+use Rattle.machine_defs.specs.State.{State, Thread, start}
+use Rattle.rl_defs.specs.Rows.{bound_by}
+use Rattle.machine_defs.specs.Wants.{Finishes, Commands, Names, by_command}
+use Rattle.domain_machine.specs.Small.Wants.{wanted}
+use Rattle.machine_defs.specs.Calling.{Wish, client_wish}
+use Rattle.domain_machine.specs.Small.Calling.{wish, wish_of, waits}
+use Rattle.domain_machine.specs.Small.Steps.{Step}
+use Rattle.machine_defs.specs.Frames.{bind, names_of}
+use Rattle.domain_machine.specs.Small.Form.{small_load, command_of}
 use Rattle.domain_machine.specs.SmallStates.{Asked, args_of, small_state}
 
-abbrev L : List (ℕ × ℕ) → Load
+abbrev L : List (ℕ × ℕ) → LoadRows
 L numbers = small_load numbers
 
 abbrev at : List (ℕ × ℕ) → ℕ → Asked → ℕ → Bool → State

@@ -1,18 +1,19 @@
 -- What contracts see of a world.
 use Rattle.std.specs.Prelude.{◌≡◌, ℕ, ◌<◌, ◌≤◌, Bool, true, false, List, [], length, Option, Some, None}
-use Rattle.rl_defs.specs.declared.load.Load.{Load}
-use Rattle.rl_defs.specs.declared.entry.Entry.{Entry}
-use Rattle.rl_defs.specs.State.{State, Thread, start, row}
+use Rattle.rl_defs.specs.declared.load.LoadRows.{LoadRows}
+use Rattle.machine_defs.specs.declared.entry.Entry.{Entry}
+use Rattle.machine_defs.specs.State.{State, Thread, start}
+use Rattle.rl_defs.specs.Rows.{row}
 
 -- the load, the log, how many puts into the log can't fail, and the state that the log leads to
 pub record Kept : Type 0 where
-  pub load : Load
+  pub load : LoadRows
   pub log : List Entry
   pub spare : ℕ
   pub state : State
 
 -- The world is at the start of the load, with an empty log.
-pub record IsFresh (load : Load) (w : Kept) : Type 0 where
+pub record IsFresh (load : LoadRows) (w : Kept) : Type 0 where
   pub load_same : w.load ≡ load
   pub log : w.log ≡ []
   pub state : w.state ≡ start load

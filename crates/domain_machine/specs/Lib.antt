@@ -1,3 +1,4 @@
+pub mod Small
 pub mod Kept
 pub mod Turns
 pub mod SmallStates

@@ -1,12 +1,13 @@
 -- The states of a load of the small form.
 use Rattle.std.specs.Prelude.{◌≡◌, ℕ, ◌+◌, ◌-◌, ◌*◌, ◌≤◌, Bool, true, false, List, [], ◌∷◌, length, Option, Some, None, IfSome, slice_get}
-use Rattle.rl_defs.specs.declared.load.Load.{Load}
-use Rattle.rl_defs.specs.declared.values.Arg.{Arg}
-use Rattle.rl_defs.specs.declared.values.Arg.TheVariants as arg
-use Rattle.rl_defs.specs.State.{State, StackFrame, Thread, start}
-use Rattle.rl_defs.specs.Crossing.{entered_frame}
-use Rattle.rl_defs.specs.Wanted.{wanted, Commands}
-use Rattle.rl_defs.specs.Small.{small_load, command_of}
+use Rattle.rl_defs.specs.declared.load.LoadRows.{LoadRows}
+use Rattle.machine_defs.specs.declared.values.Arg.{Arg}
+use Rattle.machine_defs.specs.declared.values.Arg.TheVariants as arg
+use Rattle.machine_defs.specs.State.{State, StackFrame, Thread, start}
+use Rattle.domain_machine.specs.Small.Calling.{entered_frame}
+use Rattle.domain_machine.specs.Small.Wants.{wanted}
+use Rattle.machine_defs.specs.Wants.{Commands}
+use Rattle.domain_machine.specs.Small.Form.{small_load, command_of}
 use Rattle.domain_machine.specs.Kept.{Kept}
 
 -- the numbers of the call that is open, if one is
@@ -16,7 +17,7 @@ Asked = Option (ℕ × ℕ)
 abbrev pub args_of : ℕ × ℕ → List Arg
 args_of p = arg.Num p.0 ∷ arg.Num p.1 ∷ []
 
-abbrev pub open_frames : Load → ℕ → Asked → List StackFrame
+abbrev pub open_frames : LoadRows → ℕ → Asked → List StackFrame
 open_frames L place None = []
 open_frames L place (Some p) = entered_frame L (place + 1) 1 1 0 (args_of p) ∷ []
 
@@ -38,7 +39,7 @@ abbrev pub entries_made : ℕ → Asked → Bool → ℕ
 entries_made place asked done = 2 * place + opened asked + ended done
 
 -- the state where so many commands are done, and this call is open
-abbrev pub small_state : Load → ℕ → Asked → ℕ → Bool → State
+abbrev pub small_state : LoadRows → ℕ → Asked → ℕ → Bool → State
 small_state L place asked fuel done = record (start L) {
   stacks = open_frames L place asked ∷ [];
   threads = record { fuel = fuel; place = place; names = []; done = done } ∷ [];

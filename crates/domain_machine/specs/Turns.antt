@@ -1,8 +1,8 @@
 -- What a turn and a run of turns do to a world.
 use Rattle.std.specs.Prelude.{◌≡◌, ℕ, List, ◌++◌}
-use Rattle.rl_defs.specs.declared.entry.Entry.{Entry}
-use Rattle.rl_defs.specs.Step.{Step}
-use Rattle.rl_defs.specs.Run.{Ordered}
+use Rattle.machine_defs.specs.declared.entry.Entry.{Entry}
+use Rattle.domain_machine.specs.Small.Steps.{Step}
+use Rattle.domain_machine.specs.Small.Runs.{Ordered}
 use Rattle.domain_machine.specs.Kept.{Kept}
 
 -- One step of the thread was made and logged; the load is the same.

@@ -1,15 +1,15 @@
 -- What register work gives.
 use Rattle.std.specs.Prelude.{◌≡◌, ℕ, List, [], ◌∷◌, ◌++◌, slice_set, Option, Some, None}
 use Rattle.std.specs.List.{slice_index_or}
-use Rattle.rl_defs.specs.declared.load.Load.{Load}
-use Rattle.rl_defs.specs.declared.frame.FrameBody.{FrameBody}
-use Rattle.rl_defs.specs.declared.frame.FrameBody.TheVariants as body
+use Rattle.rl_defs.specs.declared.load.LoadRows.{LoadRows}
+use Rattle.machine_defs.specs.declared.frame.FrameBody.{FrameBody}
+use Rattle.machine_defs.specs.declared.frame.FrameBody.TheVariants as body
 use Rattle.rl_defs.specs.declared.values.Value.{Value}
-use Rattle.rl_defs.specs.declared.frame.Action.{Action}
-use Rattle.rl_defs.specs.declared.frame.Action.TheVariants as action
-use Rattle.rl_defs.specs.State.{StackFrame}
+use Rattle.machine_defs.specs.declared.frame.Action.{Action}
+use Rattle.machine_defs.specs.declared.frame.Action.TheVariants as action
+use Rattle.machine_defs.specs.State.{StackFrame}
 use Rattle.rl_defs.specs.Domains.{Lines, lines_of_load, load_of_target}
-use Rattle.rl_defs.specs.Registers as work
+use Rattle.domain_machine.specs.Small.Registers as work
 use Rattle.domain_machine.specs.declared.registers.Before.{Before}
 use Rattle.domain_machine.specs.declared.registers.Outcome.{Outcome}
 use Rattle.domain_machine.specs.declared.registers.Outcome.TheVariants as outcome
@@ -26,11 +26,11 @@ SettlesTo lines fuel line regs None = work.settle lines fuel line regs ≡ work.
 SettlesTo lines fuel line regs (Some b) = work.settle lines fuel line regs ≡ work.Before b.action b.fuel b.line b.registers
 
 -- what the register work of a frame comes to. Its instance is of its target's load
-abbrev pub frame_settles : Load → ℕ → StackFrame → FrameBody Action → work.Settled
+abbrev pub frame_settles : LoadRows → ℕ → StackFrame → FrameBody Action → work.Settled
 frame_settles L fuel f (body.Code line regs) = work.settle (lines_of_load L (load_of_target L f.target)) fuel line regs
 frame_settles L fuel f (body.Native held wants) = work.Nowhere
 
-abbrev pub FrameSettlesTo : Load → ℕ → StackFrame → Option Before → Type 0
+abbrev pub FrameSettlesTo : LoadRows → ℕ → StackFrame → Option Before → Type 0
 FrameSettlesTo L fuel f None = frame_settles L fuel f f.body ≡ work.Nowhere
 FrameSettlesTo L fuel f (Some b) = frame_settles L fuel f f.body ≡ work.Before b.action b.fuel b.line b.registers
 

@@ -1,7 +1,7 @@
 -- What a world stands for, and what every world keeps.
 use Rattle.std.specs.Prelude.{◌≡◌, [], length}
-use Rattle.rl_defs.specs.Run.{Run}
-use Rattle.rl_defs.specs.Small.{IsSmallLoad}
+use Rattle.domain_machine.specs.Small.Runs.{Run}
+use Rattle.domain_machine.specs.Small.Form.{IsSmallLoad}
 use Rattle.domain_machine.specs.declared.world.World.TheInside.{Inside}
 use Rattle.domain_machine.specs.Kept.{Kept}
 use Rattle.domain_machine.specs.SmallStates.{IsSmallState, entries_made}

@@ -3,6 +3,7 @@
 //! Today it runs loads of the small form, over plain lists: one client, no objects, the rows `call`, `ret` and `done`.
 #![tactic(auto)]
 
+pub mod laws;
 mod parts;
 mod registers;
 mod world;

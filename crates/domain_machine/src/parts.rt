@@ -1,10 +1,9 @@
 //! The parts of a world, each seen as what the machine's state has.
 ghost use Rattle.std.specs.Prelude.{◌≡◌, ◌<◌, [], ◌∷◌, ◌++◌, length, IfOk, MatchBool, true, false};
 
-use rl_defs::Memory;
-use rl_defs::frame::{Action, Frame};
+use machine_defs::frame::{Action, Frame};
 use rl_defs::values::Value;
-use std::alloc::Global;
+use std::alloc::{AllocError, Global};
 use std::marker::Model;
 
 /// An instance of a load.
@@ -17,7 +16,7 @@ pub struct Instance {
 }
 
 impl Model for Instance {
-    ghost use Rattle.rl_defs.specs.State.{Instance as Row};
+    ghost use Rattle.machine_defs.specs.State.{Instance as Row};
 
     ghost Value = { Row };
 
@@ -50,7 +49,7 @@ pub struct Stack {
 
 impl Model for Stack {
     ghost use Rattle.std.specs.Prelude.{List, ◌≤◌, vec_len, vec_capacity};
-    ghost use Rattle.rl_defs.specs.State.{StackFrame};
+    ghost use Rattle.machine_defs.specs.State.{StackFrame};
 
     ghost Value = { List StackFrame };
 
@@ -61,13 +60,13 @@ impl Model for Stack {
 
 impl Stack {
     /// No frames, and room for all.
-    pub fn new(alloc: Global) -> Result<Stack, Memory>
+    pub fn new(alloc: Global) -> Result<Stack, AllocError>
         ensures { IfOk result (λ s. s ≡ []) }
     {
         let mut frames = Vec::new(alloc);
         match frames.reserve(MOST_FRAMES) {
             Ok(()) => Ok(Stack { frames }),
-            Err(_) => Err(Memory),
+            Err(_) => Err(AllocError),
         }
     }
 
@@ -108,7 +107,7 @@ pub struct Thread {
 }
 
 impl Model for Thread {
-    ghost use Rattle.rl_defs.specs.State.{Thread as Row};
+    ghost use Rattle.machine_defs.specs.State.{Thread as Row};
 
     ghost Value = { Row };
 

@@ -2,16 +2,17 @@
 ghost use Rattle.std.specs.Prelude.{◌≡◌, ◌<◌, ◌≤◌, ◌^◌, length, MatchOption, [], ◌∷◌, ◌++◌, slice_get};
 ghost use Rattle.std.specs.List.{filter_map};
 ghost use Rattle.std.specs.Option.{option_copied};
-ghost use Rattle.rl_defs.specs.Crossing as crossing;
-ghost use Rattle.rl_defs.specs.Registers as work;
-ghost use Rattle.rl_defs.specs.Registers.{value_in, calculate, number_in, meaning, returning};
+ghost use Rattle.machine_defs.specs.Arguments as crossing;
+ghost use Rattle.domain_machine.specs.Small.Registers as work;
+ghost use Rattle.domain_machine.specs.Small.Registers.{value_in, calculate, number_in, meaning, returning};
 ghost use Rattle.domain_machine.specs.Work.{MeansStep, SettlesTo};
 
-use rl_defs::arrays::{Registers, Results};
+use machine_defs::arrays::{Registers, Results};
+use machine_defs::frame::Action;
+use machine_defs::values::{Arg, Cause};
 use rl_defs::bundle::Numbered;
 use rl_defs::code::{DomainLine, Instr, MathOp, Register};
-use rl_defs::frame::Action;
-use rl_defs::values::{Arg, Cause, Value};
+use rl_defs::values::Value;
 
 /// Where register work ends: before an action, with the fuel, the line and the registers there.
 #[derive(Debug, Drop)]

@@ -2,27 +2,32 @@
 ghost use Rattle.std.specs.Prelude.{◌≡◌, ◌≢◌, ℕ, ◌-◌, ◌<◌, ◌≤◌, ◌^◌, ◌↔◌, [], ◌∷◌, length, true, IfOk, IfSome, IsTrue, MatchBool, MatchOption, map, not, slice_get, slice_set, ◌++◌};
 ghost use Rattle.std.specs.List.{slice_index_or};
 ghost use Rattle.std.specs.Option.{option_copied};
-ghost use Rattle.rl_defs.specs.State.{stack, row};
-ghost use Rattle.rl_defs.specs.Crossing.{is_enabled, entered_frame, lent_of};
-ghost use Rattle.rl_defs.specs.Run.{Run, AllDone, next_turn};
-ghost use Rattle.rl_defs.specs.Small.{IsSmallLoad};
+ghost use Rattle.machine_defs.specs.State.{stack};
+ghost use Rattle.rl_defs.specs.Rows.{row};
+ghost use Rattle.domain_machine.specs.Small.Calling.{is_enabled, entered_frame};
+ghost use Rattle.machine_defs.specs.Arguments.{lent_of};
+ghost use Rattle.domain_machine.specs.Small.Runs.{Run, next_turn};
+ghost use Rattle.machine_defs.specs.Runs.{AllDone};
+ghost use Rattle.domain_machine.specs.Small.Form.{IsSmallLoad};
 ghost use Rattle.domain_machine.specs.Kept.{IsFresh, IsClient, IsUnchanged, IsDone};
 ghost use Rattle.domain_machine.specs.Turns.{Went, WentInOrder};
 ghost use Rattle.domain_machine.specs.SmallStates.{NextCalls, nobody, command_ended};
 ghost use Rattle.domain_machine.specs.Work.{FrameSettlesTo, PopsFrame, IsReturn};
-ghost use Rattle.rl_defs.specs.Wanted.{wanted, Finishes, commands_of, arg_of, held, passed, lent};
+ghost use Rattle.domain_machine.specs.Small.Wants.{wanted};
+ghost use Rattle.machine_defs.specs.Wants.{Finishes, arg_of, name_held, given_arg, lent_arg};
+ghost use Rattle.rl_defs.specs.Rows.{commands_of};
 
 use crate::parts::{Instance, Stack, Thread};
 use crate::registers::{Before, entry_registers, settle};
-use rl_defs::Memory;
-use rl_defs::arrays::{Args, Objects, Results};
-use rl_defs::entry::Entry;
-use rl_defs::frame::{Action, Frame, FrameBody};
-use rl_defs::load::{Command, Load, ScriptArg};
-use rl_defs::log::Log;
+use machine_defs::arrays::{Args, Objects, Results};
+use machine_defs::entry::Entry;
+use machine_defs::frame::{Action, Frame, FrameBody};
+use machine_defs::log::Log;
+use machine_defs::values::Arg;
+use rl_defs::load::{Command, LoadRows, ScriptArg};
 use rl_defs::lookups::body_of_function;
-use rl_defs::values::{Arg, Value};
-use std::alloc::Global;
+use rl_defs::values::Value;
+use std::alloc::{AllocError, Global};
 use std::marker::Model;
 
 /// No turn begins at so many entries or more.
@@ -57,7 +62,7 @@ pub enum Finish {
 /// A load and a run of it. Its type keeps that the log is a run of the load that ends in the world's state.
 #[derive(Drop)]
 pub struct World {
-    load: Load,
+    load: LoadRows,
     log: Log,
     instances: Vec<Instance>,
     stacks: Vec<Stack>,
@@ -79,7 +84,7 @@ impl Model for World {
 
 impl World {
     /// The start of a load, with an empty log. Today the load is one of the small form.
-    pub fn new(alloc: Global, load: Load) -> Result<World, Memory>
+    pub fn new(alloc: Global, load: LoadRows) -> Result<World, AllocError>
         requires { IsSmallLoad load }
         ensures { IfOk result (IsFresh load) }
     {
@@ -107,7 +112,7 @@ impl World {
     }
 
     /// The load.
-    pub fn load(&self) -> &Load
+    pub fn load(&self) -> &LoadRows
         ensures { result.now ≡ self.now.load }
     {
         &self.load
@@ -164,7 +169,7 @@ impl World {
         Turn::Went
     }
 
-    /// Turns by the order list, from its first place on, until every client is done. After `Long` and `Memory` the turns that were made
+    /// Turns by the order list, from its first place on, until every client is done. After `Long` and `AllocError` the turns that were made
     /// stand.
     pub fn finish(&mut self) -> Finish
         ensures whole { result ≡ Finish.Whole → AllDone self.new.state }
@@ -296,7 +301,7 @@ struct NextCall {
 }
 
 // The command at a place of a client's script.
-fn command_at(load: &Load, t: u32, place: u32) -> Option<&Command>
+fn command_at(load: &LoadRows, t: u32, place: u32) -> Option<&Command>
     ensures { option_copied result ≡ slice_get (commands_of (row load.now.clients t)) place }
 {
     if t == 0 {
@@ -331,7 +336,7 @@ fn arg_of(names: &[Option<Value>], given: ScriptArg) -> Arg
 
 // What a script name holds.
 fn held(names: &[Option<Value>], name: u32) -> Option<Value>
-    ensures { result ≡ held names.now name }
+    ensures { result ≡ name_held names.now name }
 {
     match names.get(name as usize) {
         Some(value) => *value,
@@ -340,7 +345,7 @@ fn held(names: &[Option<Value>], name: u32) -> Option<Value>
 }
 
 fn passed(value: Option<Value>) -> Arg
-    ensures { result ≡ passed value }
+    ensures { result ≡ given_arg value }
 {
     match value {
         Some(Value::Num(number)) => Arg::Num(number),
@@ -351,7 +356,7 @@ fn passed(value: Option<Value>) -> Arg
 }
 
 fn lent(value: Option<Value>) -> Arg
-    ensures { result ≡ lent value }
+    ensures { result ≡ lent_arg value }
 {
     match value {
         Some(Value::Obj(object)) => Arg::Lent(object),
@@ -361,7 +366,7 @@ fn lent(value: Option<Value>) -> Arg
 
 // A code frame at its function's first line, with the arguments in its registers. Nothing is lent to it yet.
 fn entered_frame(
-    load: &Load,
+    load: &LoadRows,
     call: u32,
     target: u32,
     instance: u32,
@@ -408,7 +413,7 @@ fn pop_frame(stacks: &mut Vec<Stack>, t: u32) -> Frame<Action>
 }
 
 // What a frame's register work comes to.
-fn settle_frame(load: &Load, fuel: u32, frame: Frame<Action>) -> Option<Before>
+fn settle_frame(load: &LoadRows, fuel: u32, frame: Frame<Action>) -> Option<Before>
     ensures { FrameSettlesTo load.now fuel frame result }
 {
     let Frame {
@@ -494,12 +499,12 @@ fn charge(threads: &mut Vec<Thread>, t: u32, fuel: u32)
 }
 
 // A list of one item.
-fn one<T: Drop>(alloc: Global, item: T) -> Result<Vec<T>, Memory>
+fn one<T: Drop>(alloc: Global, item: T) -> Result<Vec<T>, AllocError>
     ensures { IfOk result (λ v. v.items ≡ item ∷ []) }
 {
     let mut list = Vec::new(alloc);
     match list.push(item) {
         Ok(()) => Ok(list),
-        Err(_) => Err(Memory),
+        Err(_) => Err(AllocError),
     }
 }

@@ -1,21 +1,25 @@
 -- What it tells that a thread wants to do something: who acts, and that it lives.
 use Rattle.std.proofs.Common.{◌≡◌, ℕ, zero, suc, true, [], length, Option, Some, None, slice_get, refl, sym, subst, inl, inr}
 use Rattle.std.proofs.lemmas.Bool.{cases_Bool}
-use Rattle.rl_defs.specs.declared.frame.Action.{Action}
-use Rattle.rl_defs.specs.declared.frame.FrameBody.{FrameBody}
-use Rattle.rl_defs.specs.declared.frame.FrameBody.TheVariants as body
-use Rattle.rl_defs.specs.declared.load.Load.{Load}
+use Rattle.machine_defs.specs.declared.frame.Action.{Action}
+use Rattle.machine_defs.specs.declared.frame.FrameBody.{FrameBody}
+use Rattle.machine_defs.specs.declared.frame.FrameBody.TheVariants as body
+use Rattle.rl_defs.specs.declared.load.LoadRows.{LoadRows}
 use Rattle.rl_defs.specs.declared.load.Command.{Command}
-use Rattle.rl_defs.specs.State.{State, StackFrame, Thread, row, is_live, stack}
-use Rattle.rl_defs.specs.Wanted.{Want, Nothing, Acts, top, commands_of, by_command, can_do}
-use Rattle.rl_defs.specs.Instructions.{Settled, Nowhere, Before, settle}
-use Rattle.rl_defs.specs.Machine.Seen.{domain_of_instance, seen}
-use Rattle.rl_defs.specs.Machine.Wants.{wanted, by_thread, by_top, by_frame, by_body, settled}
-use Rattle.rl_defs.specs.Machine.Frames.{with_body}
+use Rattle.machine_defs.specs.State.{State, StackFrame, Thread, is_live, stack}
+use Rattle.rl_defs.specs.Rows.{row}
+use Rattle.machine_defs.specs.Wants.{Want, Nothing, Acts, by_command, can_do}
+use Rattle.machine_defs.specs.State.{top}
+use Rattle.rl_defs.specs.Rows.{commands_of}
+use Rattle.machine_defs.specs.Instructions.{Settled, Nowhere, Before, settle}
+use Rattle.machine_defs.specs.Seen.{domain_of_instance, seen}
+use Rattle.machine_defs.specs.Wants.{wanted, by_top, by_frame, by_body, settled}
+use Rattle.machine_defs.specs.Frames.{with_body}
 use Rattle.machine_laws.proofs.Stacks.{top_none}
+use Rattle.machine_laws.proofs.Parts.{by_thread}
 
 -- a thread that wants an action has a top frame, of a live instance; it stands before the action with another body alone
-pub record ActsAs (L : Load) (s : State) (t : ℕ) (act : Action) (fuel : ℕ) (frame : StackFrame) : Type 0 where
+pub record ActsAs (L : LoadRows) (s : State) (t : ℕ) (act : Action) (fuel : ℕ) (frame : StackFrame) : Type 0 where
   pub thread : Thread
   pub of : row s.threads t ≡ Some thread
   pub f : StackFrame
@@ -25,7 +29,7 @@ pub record ActsAs (L : Load) (s : State) (t : ℕ) (act : Action) (fuel : ℕ) (
   pub same : frame ≡ with_body f frame.body
 
 -- a thread that wants a command has no frame
-pub record CommandsAs (L : Load) (s : State) (t : ℕ) (want : Want) : Type 0 where
+pub record CommandsAs (L : LoadRows) (s : State) (t : ℕ) (want : Want) : Type 0 where
   pub thread : Thread
   pub of : row s.threads t ≡ Some thread
   pub alone : stack s t ≡ []
@@ -38,7 +42,7 @@ not_command s thread (Some c) act fuel frame e = elim (cases_Bool (can_do s thre
   | inr b ↦ let e' = rw b at e in cc
 ]
 
-pub body_same : (L : Load) (s : State) (fuel : ℕ) (f : StackFrame) (b : FrameBody Action) → f.body ≡ b → (act : Action) (rest : ℕ) (frame : StackFrame) → by_body L s fuel f b ≡ Acts act rest frame → frame ≡ with_body f frame.body
+pub body_same : (L : LoadRows) (s : State) (fuel : ℕ) (f : StackFrame) (b : FrameBody Action) → f.body ≡ b → (act : Action) (rest : ℕ) (frame : StackFrame) → by_body L s fuel f b ≡ Acts act rest frame → frame ≡ with_body f frame.body
 body_same L s fuel f (body.Code at regs) is act rest frame e = go (settle (domain_of_instance L s f.instance) (seen L s f.instance) (length s.objects) fuel (record { at = at; regs = regs })) e
   where
     go : (found : Settled) → settled f found ≡ Acts act rest frame → frame ≡ with_body f frame.body
@@ -47,7 +51,7 @@ body_same L s fuel f (body.Code at regs) is act rest frame e = go (settle (domai
 body_same L s zero f (body.Native held kept) is act rest frame e = let same : frame ≡ f = cc in rw same refl
 body_same L s (suc fuel) f (body.Native held kept) is act rest frame e = let same : frame ≡ f = cc in rw same refl
 
-pub acts_as : (L : Load) (s : State) (t : ℕ) (act : Action) (fuel : ℕ) (frame : StackFrame) → wanted L s t ≡ Acts act fuel frame → ActsAs L s t act fuel frame
+pub acts_as : (L : LoadRows) (s : State) (t : ℕ) (act : Action) (fuel : ℕ) (frame : StackFrame) → wanted L s t ≡ Acts act fuel frame → ActsAs L s t act fuel frame
 acts_as L s t act fuel frame wants = by_row (row s.threads t) refl
   where
     by_row : (thread : Option Thread) → row s.threads t ≡ thread → ActsAs L s t act fuel frame
@@ -74,7 +78,7 @@ OfClient Nothing = ⊥
 OfClient (Acts act fuel frame) = ⊥
 OfClient _ = Unit {0}
 
-frame_acts : (L : Load) (s : State) (fuel : ℕ) (f : StackFrame) (b : FrameBody Action) → OfClient (by_body L s fuel f b) → ⊥
+frame_acts : (L : LoadRows) (s : State) (fuel : ℕ) (f : StackFrame) (b : FrameBody Action) → OfClient (by_body L s fuel f b) → ⊥
 frame_acts L s fuel f (body.Code at regs) no' = go (settle (domain_of_instance L s f.instance) (seen L s f.instance) (length s.objects) fuel (record { at = at; regs = regs })) no'
   where
     go : (found : Settled) → OfClient (settled f found) → ⊥
@@ -83,7 +87,7 @@ frame_acts L s fuel f (body.Code at regs) no' = go (settle (domain_of_instance L
 frame_acts L s zero f (body.Native held kept) no' = no'
 frame_acts L s (suc fuel) f (body.Native held kept) no' = no'
 
-pub commands_as : (L : Load) (s : State) (t : ℕ) (want : Want) → OfClient want → wanted L s t ≡ want → CommandsAs L s t want
+pub commands_as : (L : LoadRows) (s : State) (t : ℕ) (want : Want) → OfClient want → wanted L s t ≡ want → CommandsAs L s t want
 commands_as L s t want client wants = by_row (row s.threads t) refl
   where
     by_row : (thread : Option Thread) → row s.threads t ≡ thread → CommandsAs L s t want

@@ -1,20 +1,21 @@
 -- Each action of a frame is its row of the ledger.
 use Rattle.std.proofs.Common.{◌≡◌, ℕ, suc, ◌+◌, ◌<◌, Bool, true, ◌⊎◌, List, [], ◌∷◌, length, Option, Some, None, slice_get, slice_set, refl, ap, ap₂, sym, ◌∙◌, add-one}
-use Rattle.rl_defs.specs.declared.values.Owner.{Owner}
-use Rattle.rl_defs.specs.declared.values.Owner.TheVariants as owner
-use Rattle.rl_defs.specs.declared.entry.Entry.TheVariants as entry
-use Rattle.rl_defs.specs.declared.frame.Action.{Action}
-use Rattle.rl_defs.specs.declared.frame.Action.TheVariants as action
-use Rattle.rl_defs.specs.declared.frame.Answer.{Answer}
-use Rattle.rl_defs.specs.declared.frame.Answer.TheVariants as answer
-use Rattle.rl_defs.specs.declared.load.Load.{Load}
-use Rattle.rl_defs.specs.State.{State, Placement, Root, Hung, row}
-use Rattle.rl_defs.specs.Loans.{count}
-use Rattle.rl_defs.specs.Crossing.{is_undone}
-use Rattle.rl_defs.specs.Machine.Objects.{with_new, without, with_cells_of, overwritten, placed}
-use Rattle.rl_defs.specs.Machine.Seen.{words, slots, content, in_slot, with_word, with_slot}
-use Rattle.rl_defs.specs.Machine.ObjectRows.{Does, FrameMakes, instead, block, with_block, IsSlot as IsSlotOf}
-use Rattle.rl_defs.specs.Machine.Sound.{own_of}
+use Rattle.machine_defs.specs.declared.values.Owner.{Owner}
+use Rattle.machine_defs.specs.declared.values.Owner.TheVariants as owner
+use Rattle.machine_defs.specs.declared.entry.Entry.TheVariants as entry
+use Rattle.machine_defs.specs.declared.frame.Action.{Action}
+use Rattle.machine_defs.specs.declared.frame.Action.TheVariants as action
+use Rattle.machine_defs.specs.declared.frame.Answer.{Answer}
+use Rattle.machine_defs.specs.declared.frame.Answer.TheVariants as answer
+use Rattle.rl_defs.specs.declared.load.LoadRows.{LoadRows}
+use Rattle.machine_defs.specs.State.{State, Placement, Root, Hung}
+use Rattle.rl_defs.specs.Rows.{row}
+use Rattle.machine_defs.specs.Loans.{count}
+use Rattle.machine_defs.specs.Calling.{is_undone}
+use Rattle.machine_defs.specs.Objects.{with_new, without, with_cells_of, overwritten, placed}
+use Rattle.machine_defs.specs.Seen.{words, slots, in_slot, with_word, with_slot}
+use Rattle.machine_defs.specs.ObjectRows.{Does, FrameMakes, instead, block, with_block, IsSlot as IsSlotOf}
+use Rattle.machine_defs.specs.Sound.{own_of}
 use Rattle.machine_laws.specs.Ledger.{Ledger, at}
 use Rattle.machine_laws.specs.LedgerOf.{frame_entry, ledger_of}
 use Rattle.machine_laws.specs.LedgerRows.{Exchanged, Row}
@@ -23,9 +24,10 @@ use Rattle.machine_laws.proofs.Tops.{under}
 use Rattle.machine_laws.proofs.Seats.{seats, IsIn, seats_new, seats_without, seats_cells, seats_placed, remove_one}
 use Rattle.machine_laws.proofs.Instances.{loads_kept, lives_kept, count_kept, slots_kept, words_kept, slots_set, words_set}
 use Rattle.machine_laws.proofs.FrameRows.{actor, actor_runs, actor_inside, actor_lives, charged, charged_ledger, charged_laid, stacks_after}
+use Rattle.machine_laws.proofs.Parts.{content}
 
 -- what the frame that acts has of its own changes so
-abbrev pub Trades : {L : Load} {s : State} {t i : ℕ} {act : Action} {a : Answer} {change : State → State} {z : State} → Laid L s → is_undone (row s.threads t) ≡ true → Does L s t i act a change z → List ℕ → List ℕ → Type 0
+abbrev pub Trades : {L : LoadRows} {s : State} {t i : ℕ} {act : Action} {a : Answer} {change : State → State} {z : State} → Laid L s → is_undone (row s.threads t) ≡ true → Does L s t i act a change z → List ℕ → List ℕ → Type 0
 Trades laid ready d «lost» gained = Exchanged (own_of (actor laid ready d)) «lost» gained (own_of d.after)
 
 -- a ledger in which objects are elsewhere
@@ -45,7 +47,7 @@ full_slot contents k o is = go (slice_get contents k) is
     go None e = absurd cc
     go (Some c) e = ap (λ x. Some x) e
 
-module _ (L : Load) (s z : State) (t : ℕ) (laid : Laid L s) (ready : is_undone (row s.threads t) ≡ true) where
+module _ (L : LoadRows) (s z : State) (t : ℕ) (laid : Laid L s) (ready : is_undone (row s.threads t) ≡ true) where
   pub new_row : (w : Owner) (o ty : ℕ) (values : List ℕ) → o ≡ s.next_object → (m : FrameMakes L s t w o ty values z)
       → Trades laid ready m.does [] (o ∷ [])
       → Row L (ledger_of L s) (entry.New t w o ty values) (ledger_of L z)

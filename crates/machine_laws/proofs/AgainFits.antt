@@ -1,28 +1,33 @@
--- Stacks fit behind a call that is issued again.
-use Rattle.std.proofs.Common.{◌≡◌, ◌≢◌, ℕ, ◌<◌, ◌≤◌, true, ◌&&◌, List, [], ◌∷◌, ◌++◌, length, Some, refl, ap, ap₂, sym, subst, ◌∙◌, arith}
+-- Stacks fit after a call that is issued again.
+use Rattle.std.specs.Option.{option_map_or}
+use Rattle.std.proofs.Common.{◌≡◌, ◌≢◌, ℕ, ◌<◌, ◌≤◌, true, false, ◌&&◌, List, [], ◌∷◌, ◌++◌, length, Some, refl, ap, ap₂, sym, subst, ◌∙◌, arith}
 use Rattle.std.proofs.lemmas.Bool.{and_parts}
-use Rattle.rl_defs.specs.declared.values.Arg.{Arg}
-use Rattle.rl_defs.specs.declared.values.Arg.TheVariants as arg
+use Rattle.machine_defs.specs.declared.values.Arg.{Arg}
+use Rattle.machine_defs.specs.declared.values.Arg.TheVariants as arg
 use Rattle.rl_defs.specs.declared.tables.Kind.{Kind}
-use Rattle.rl_defs.specs.declared.entry.Entry.{Entry}
-use Rattle.rl_defs.specs.declared.entry.Entry.TheVariants as entry
-use Rattle.rl_defs.specs.declared.load.Load.{Load}
+use Rattle.machine_defs.specs.declared.entry.Entry.{Entry}
+use Rattle.machine_defs.specs.declared.entry.Entry.TheVariants as entry
+use Rattle.rl_defs.specs.declared.load.LoadRows.{LoadRows}
 use Rattle.rl_defs.specs.Domains.{load_of_target, method_of}
-use Rattle.rl_defs.specs.CodeFits.{Typing}
-use Rattle.rl_defs.specs.State.{State, StackFrame, row, is_live, current, stack, frames_of}
-use Rattle.rl_defs.specs.Loans.{count, sweep as sweep_state}
-use Rattle.rl_defs.specs.Crossing.{is_undone, moved_of}
-use Rattle.rl_defs.specs.Wanted.{instance_load, load_of_instance}
-use Rattle.rl_defs.specs.Machine.NativeFits.{types_of, is_target, args_suit}
-use Rattle.rl_defs.specs.Machine.Frames.{below_top}
-use Rattle.rl_defs.specs.Machine.Calling.{is_shadow, is_idempotent}
-use Rattle.rl_defs.specs.Machine.CallRows.{IssuesAgain}
-use Rattle.rl_defs.specs.Machine.Sound.{arg_stands, args_stand}
+use Rattle.rl_defs.specs.Registers.{Typing}
+use Rattle.machine_defs.specs.State.{State, StackFrame, is_live, current, stack, frames_of}
+use Rattle.rl_defs.specs.Rows.{row}
+use Rattle.machine_defs.specs.Loans.{count, sweep as sweep_state}
+use Rattle.machine_defs.specs.Calling.{is_undone}
+use Rattle.machine_defs.specs.Arguments.{moved_of}
+use Rattle.machine_defs.specs.State.{instance_load}
+use Rattle.machine_defs.specs.NativeFits.{args_suit}
+use Rattle.machine_defs.specs.Seen.{types_of}
+use Rattle.rl_defs.specs.Rows.{is_target}
+use Rattle.machine_defs.specs.Frames.{below_top}
+use Rattle.machine_defs.specs.Calling.{is_shadow, is_idempotent}
+use Rattle.machine_defs.specs.CallRows.{IssuesAgain}
+use Rattle.machine_defs.specs.Sound.{arg_stands, args_stand}
+use Rattle.rl_defs.proofs.ValidFacts.{method_kept, moves_none}
 use Rattle.machine_laws.specs.LedgerOf.{ledger_of}
 use Rattle.machine_laws.specs.LedgerSound.{Owned, Placed}
 use Rattle.machine_laws.specs.Shape.{Laid}
-use Rattle.machine_laws.specs.Plans.{Plans}
-use Rattle.machine_laws.specs.Registers.{HasTables}
+use Rattle.machine_laws.specs.Plans.{Plans, HasTables}
 use Rattle.machine_laws.specs.Fitting.{BodyFits, StackFits, Fitting}
 use Rattle.machine_laws.proofs.Rows.{row_set_same, row_set_other}
 use Rattle.machine_laws.proofs.Stacks.{top_splits}
@@ -32,6 +37,7 @@ use Rattle.machine_laws.proofs.Agreeing.{below_kept, laid_z, all_fit}
 use Rattle.machine_laws.proofs.DoneFits.{types_kept}
 use Rattle.machine_laws.proofs.BegunFits.{begun_fits}
 use Rattle.machine_laws.proofs.EndSteps.{moves_nothing, top_call, ready_within}
+use Rattle.machine_laws.proofs.Parts.{load_of_instance}
 
 -- arguments of which none was moved suit as they did
 pub stands_suits : (types : Typing) (kinds : List Kind) (args : List Arg) → moved_of args ≡ [] → args_stand types kinds args ≡ true → args_suit types kinds args ≡ true
@@ -43,7 +49,7 @@ stands_suits types (k ∷ kinds) (arg.Moved o ∷ args) none stand = absurd cc
 stands_suits types [] (a ∷ args) none stand = absurd cc
 stands_suits types (k ∷ kinds) [] none stand = absurd cc
 
-module _ (L : Load) (s : State) (plans : Plans L) (tables : HasTables L.tables) (laid : Laid L s) (owned : Owned L (ledger_of L s)) (placed : Placed L (ledger_of L s)) (fits : Fitting L s) (t c x i : ℕ) (made : State)
+module _ (L : LoadRows) (s : State) (plans : Plans L) (tables : HasTables L.tables) (laid : Laid L s) (owned : Owned L (ledger_of L s)) (placed : Placed L (ledger_of L s)) (fits : Fitting L s) (t c x i : ℕ) (made : State)
     (ready : is_undone (row s.threads t) ≡ true) (r : IssuesAgain L s t c x i made) (owned' : Owned L (ledger_of L (sweep_state made))) where
   abbrev z : State
   z = sweep_state made
@@ -74,9 +80,9 @@ module _ (L : Load) (s : State) (plans : Plans L) (tables : HasTables L.tables) 
       let call = top_call L s plans tables laid owned fits t dead r.of.on_top in
       let target : is_target L x ≡ true = subst (λ n. is_target L n ≡ true) (sym r.through) call.target in
       let row' : method_of L x dead.method ≡ Some call.method = subst (λ n. method_of L n dead.method ≡ Some call.method) (sym r.through) call.row in
-      let parts = and_parts (is_shadow L dead.target) (is_idempotent (method_of L dead.target dead.method)) r.reissuable in
-      let idem : call.method.idempotent ≡ true = subst (λ m. is_idempotent m ≡ true) call.row parts.1 in
-      let none = moves_nothing (types_of L s) call.method.params dead.args ((plans.methods.target dead.target dead.method call.method call.row).still idem) call.args in
+      let parts = and_parts (is_shadow L dead.target) (is_idempotent L dead.target dead.method) r.reissuable in
+      let idem : call.method.idempotent ≡ true = subst (λ m. option_map_or (λ method. method.idempotent) m false ≡ true) call.row parts.1 in
+      let none = moves_nothing (types_of L s) call.method.params dead.args (moves_none L.tables call.method (method_kept L plans dead.target dead.method call.method call.row) idem) call.args in
       let instances' : made.instances ≡ s.instances = ap (λ (v : State). v.instances) r.becomes in
       let stands' : instance_load s (current L s x) ≡ load_of_target L x = ap (instance_load s) (sym (current_same L s x target)) ∙ (placed.current_of x).1 in
       let load' : instance_load made i ≡ load_of_target L x = ap (λ is'. load_of_instance (row is' i)) instances' ∙ ap (instance_load s) r.into ∙ stands' in

@@ -1,17 +1,18 @@
--- Frames that a step leaves agree on what they have: the state behind a step, and the frames that stand in it as before.
+-- Frames that a step leaves agree on what they have: the state after a step, and the frames that stand in it as before.
 use Rattle.std.proofs.Common.{◌≡◌, ℕ, ◌+◌, ◌<◌, ◌≤◌, true, List, [], ◌∷◌, ◌++◌, length, Some, refl, ap, sym, subst, ◌∙◌, arith, inl, inr, append_assoc, ◌≢◌}
 use Rattle.std.proofs.lemmas.Bool.{cases_eq}
-use Rattle.rl_defs.specs.declared.entry.Entry.{Entry}
-use Rattle.rl_defs.specs.declared.entry.Entry.TheVariants as entry
-use Rattle.rl_defs.specs.declared.load.Load.{Load}
+use Rattle.machine_defs.specs.declared.entry.Entry.{Entry}
+use Rattle.machine_defs.specs.declared.entry.Entry.TheVariants as entry
+use Rattle.rl_defs.specs.declared.load.LoadRows.{LoadRows}
 use Rattle.rl_defs.specs.Domains.{load_of_target}
-use Rattle.rl_defs.specs.State.{State, StackFrame, row, is_live, stack}
-use Rattle.rl_defs.specs.Loans.{object_of, sweep as sweep_state}
-use Rattle.rl_defs.specs.Crossing.{lent_of}
-use Rattle.rl_defs.specs.Wanted.{instance_load}
-use Rattle.rl_defs.specs.Machine.NativeFits.{types_of, struct_or_none}
-use Rattle.rl_defs.specs.Machine.Steps.{Row as RowOf}
-use Rattle.rl_defs.specs.Machine.Frames.{with_body}
+use Rattle.machine_defs.specs.State.{State, StackFrame, is_live, stack}
+use Rattle.rl_defs.specs.Rows.{row}
+use Rattle.machine_defs.specs.Loans.{object_of, sweep as sweep_state}
+use Rattle.machine_defs.specs.Arguments.{lent_of}
+use Rattle.machine_defs.specs.State.{instance_load}
+use Rattle.machine_defs.specs.Seen.{types_of}
+use Rattle.machine_defs.specs.Steps.{Row as RowOf}
+use Rattle.machine_defs.specs.Frames.{with_body}
 use Rattle.machine_laws.specs.Ledger.{LedgerFrame}
 use Rattle.machine_laws.specs.LedgerOf.{frame_entry, entries_of, ledger_of}
 use Rattle.machine_laws.specs.LedgerSound.{Owned, Placed, Grounded}
@@ -27,20 +28,21 @@ use Rattle.machine_laws.proofs.Present.{present, stack_within}
 use Rattle.machine_laws.proofs.StackFits.{AllAgree, BelowFits, agree_each, stack_kept}
 use Rattle.machine_laws.proofs.LaidRows.{laid_row}
 use Rattle.machine_laws.proofs.StaysRows.{stays_swept, new_stays, instances_row}
+use Rattle.machine_laws.proofs.Parts.{struct_or_none}
 
 -- what is grounded of a frame above the client's own
-pub record Stands (L : Load) (s : State) (f : StackFrame) : Type 0 where
+pub record Stands (L : LoadRows) (s : State) (f : StackFrame) : Type 0 where
   pub some : 0 < f.instance
   pub opened : f.instance ≤ length s.instances
   pub load : instance_load s f.instance ≡ load_of_target L f.target
   pub lent : f.lent ≡ lent_of f.args
 
-grounded_rest : (L : Load) (loads : ℕ → ℕ) (ni nc t : ℕ) (fs : List StackFrame) (rest : List LedgerFrame) → (rest ≡ [] → ⊥) → Grounded L loads ni nc t (entries_of fs rest) → Grounded L loads ni nc t rest
+grounded_rest : (L : LoadRows) (loads : ℕ → ℕ) (ni nc t : ℕ) (fs : List StackFrame) (rest : List LedgerFrame) → (rest ≡ [] → ⊥) → Grounded L loads ni nc t (entries_of fs rest) → Grounded L loads ni nc t rest
 grounded_rest L loads ni nc t [] rest some g = g
 grounded_rest L loads ni nc t (f ∷ fs) [] some g = absurd (some refl)
 grounded_rest L loads ni nc t (f ∷ fs) (r ∷ rest) some g = (grounded_rest L loads ni nc t fs (frame_entry f ∷ (r ∷ rest)) (λ e. cc) g).4
 
-pub stands : (L : Load) (s : State) → Laid L s → Owned L (ledger_of L s) → Placed L (ledger_of L s) → (t : ℕ) (below above : List StackFrame) (f : StackFrame) → stack s t ≡ below ++ f ∷ above → Stands L s f
+pub stands : (L : LoadRows) (s : State) → Laid L s → Owned L (ledger_of L s) → Placed L (ledger_of L s) → (t : ℕ) (below above : List StackFrame) (f : StackFrame) → stack s t ≡ below ++ f ∷ above → Stands L s f
 stands L s laid owned placed t below above f here =
     let w = stack_within L s laid owned t below above f here in
     let g : Grounded L (instance_load s) (length s.instances + 1) s.next_call t (entries t (below ++ f ∷ above) (row s.threads t)) = subst (λ fs. Grounded L (instance_load s) (length s.instances + 1) s.next_call t (entries t fs (row s.threads t))) here (placed.grounded t w.0 w.1) in
@@ -59,7 +61,7 @@ stands L s laid owned placed t below above f here =
         }
     go (h ∷ below) r rest g = go below (frame_entry h) (r ∷ rest) g
 
-module _ (L : Load) (s : State) (e : Entry) (made : State) (laid : Laid L s) (owned : Owned L (ledger_of L s)) (placed : Placed L (ledger_of L s)) (r : RowOf L s e made) (owned' : Owned L (ledger_of L (sweep_state made))) where
+module _ (L : LoadRows) (s : State) (e : Entry) (made : State) (laid : Laid L s) (owned : Owned L (ledger_of L s)) (placed : Placed L (ledger_of L s)) (r : RowOf L s e made) (owned' : Owned L (ledger_of L (sweep_state made))) where
   abbrev pub z : State
   z = sweep_state made
 

@@ -1,24 +1,25 @@
 -- What frames get and how they begin is determined by the state, but for the choice of a native body.
 use Rattle.std.proofs.Common.{◌≡◌, ℕ, ◌-◌, ◌<◌, Bool, true, false, List, Option, Some, None, refl, ap, sym, subst, ◌∙◌, true≢false}
-use Rattle.rl_defs.specs.declared.values.Arg.{Arg}
-use Rattle.rl_defs.specs.declared.frame.FrameBody.{FrameBody}
-use Rattle.rl_defs.specs.declared.frame.FrameBody.TheVariants as body
-use Rattle.rl_defs.specs.declared.frame.Action.{Action}
-use Rattle.rl_defs.specs.declared.frame.Answer.{Answer}
-use Rattle.rl_defs.specs.declared.load.Load.{Load}
-use Rattle.rl_defs.specs.State.{State, StackFrame, Thread, is_live, stack, with_thread}
-use Rattle.rl_defs.specs.Step.{after_command}
-use Rattle.rl_defs.specs.Wanted.{Want, Acts, top, instance_load}
-use Rattle.rl_defs.specs.Machine.Seen.{domain_of_load}
-use Rattle.rl_defs.specs.Machine.Wants.{wanted}
-use Rattle.rl_defs.specs.Machine.Frames.{below_top, with_top, with_body, frame_of, code_at, answered_code, results_in, BeginsBody, Begins, AnswersBody, Answers, AnswersFrame, AnswersTop, Replies}
-use Rattle.rl_defs.specs.Machine.Calling.{with_fuel}
-use Rattle.rl_defs.specs.Machine.ObjectRows.{Does}
-use Rattle.rl_defs.specs.Machine.Laws.{unchosen_body, unchosen_frame, unchosen}
-use Rattle.machine_laws.proofs.Unchosen.{Alike, IsBlind, top_alike}
+use Rattle.machine_defs.specs.declared.values.Arg.{Arg}
+use Rattle.machine_defs.specs.declared.frame.FrameBody.{FrameBody}
+use Rattle.machine_defs.specs.declared.frame.FrameBody.TheVariants as body
+use Rattle.machine_defs.specs.declared.frame.Action.{Action}
+use Rattle.machine_defs.specs.declared.frame.Answer.{Answer}
+use Rattle.rl_defs.specs.declared.load.LoadRows.{LoadRows}
+use Rattle.machine_defs.specs.State.{State, StackFrame, Thread, is_live, stack, with_thread}
+use Rattle.machine_defs.specs.Frames.{after_command}
+use Rattle.machine_defs.specs.Wants.{Want, Acts}
+use Rattle.machine_defs.specs.State.{top, instance_load}
+use Rattle.rl_defs.specs.Rows.{domain_of_load}
+use Rattle.machine_defs.specs.Wants.{wanted}
+use Rattle.machine_defs.specs.Frames.{below_top, with_top, with_body, frame_of, code_at, answered_code, results_in, BeginsBody, Begins, AnswersBody, Answers, AnswersFrame, AnswersTop, Replies}
+use Rattle.machine_defs.specs.Calling.{with_fuel}
+use Rattle.machine_defs.specs.ObjectRows.{Does}
+use Rattle.machine_defs.specs.Laws.{unchosen_body, unchosen}
+use Rattle.machine_laws.proofs.Unchosen.{unchosen_frame, Alike, IsBlind, top_alike}
 
 -- a frame of a call begins the same but for its choice, whatever the states it begins in
-pub begins_alike : (L : Load) (m n : State) (c x i o : ℕ) (args : List Arg) (f g : StackFrame) → Begins L m c x i o args f → Begins L n c x i o args g → unchosen_frame f ≡ unchosen_frame g
+pub begins_alike : (L : LoadRows) (m n : State) (c x i o : ℕ) (args : List Arg) (f g : StackFrame) → Begins L m c x i o args f → Begins L n c x i o args g → unchosen_frame f ≡ unchosen_frame g
 begins_alike L m n c x i o args f g a b =
     ap unchosen_frame a.is ∙ ap (λ y. frame_of c x i o args y) (bodies f.body g.body in_m in_n) ∙ sym (ap unchosen_frame b.is)
   where
@@ -38,7 +39,7 @@ begins_alike L m n c x i o args f g a b =
     bodies (body.Native held next) (body.Native held' next') p q = let same : held ≡ held' = (let e = p.1 in let e' = q.1 in cc) in cc
 
 -- a frame of the same load in both states gets the same answer
-pub answers_alike : (L : Load) (m n : State) (f : StackFrame) (a : Answer) (g h : StackFrame) → instance_load m f.instance ≡ instance_load n f.instance → Answers L m f a g → Answers L n f a h → unchosen_frame g ≡ unchosen_frame h
+pub answers_alike : (L : LoadRows) (m n : State) (f : StackFrame) (a : Answer) (g h : StackFrame) → instance_load m f.instance ≡ instance_load n f.instance → Answers L m f a g → Answers L n f a h → unchosen_frame g ≡ unchosen_frame h
 answers_alike L m n f a g h load p q = by_body f.body p q
   where
     by_body : (b : FrameBody Action) → AnswersBody L m f a b g → AnswersBody L n f a b h → unchosen_frame g ≡ unchosen_frame h
@@ -49,7 +50,7 @@ answers_alike L m n f a g h load p q = by_body f.body p q
     by_body (body.Native held act) p' q' = ap unchosen_frame p'.1 ∙ sym (ap unchosen_frame q'.1)
 
 -- the caller of a call that has ended gets the same answer
-pub replies_alike : (L : Load) (s : State) (t : ℕ) (a : Answer) (m n : State) → 0 < t → Replies L s t a m → Replies L s t a n → Alike t m n
+pub replies_alike : (L : LoadRows) (s : State) (t : ℕ) (a : Answer) (m n : State) → 0 < t → Replies L s t a m → Replies L s t a n → Alike t m n
 replies_alike L s t a m n some p q = by_top (top (stack s t)) p q
   where
     by_life : (f : StackFrame) (lives : Bool) → AnswersFrame L s t f a lives m → AnswersFrame L s t f a lives n → Alike t m n
@@ -75,13 +76,13 @@ pub record SameActs (act act' : Action) (fuel fuel' : ℕ) (f f' : StackFrame) :
 pub same_acts : (want : Want) (act act' : Action) (fuel fuel' : ℕ) (f f' : StackFrame) → want ≡ Acts act fuel f → want ≡ Acts act' fuel' f' → SameActs act act' fuel fuel' f f'
 same_acts want act act' fuel fuel' f f' p q = let e : Acts act fuel f ≡ Acts act' fuel' f' = sym p ∙ q in record { doing = cc; paying = cc; frame = cc }
 
-pub does_inside : (L : Load) (s : State) (t i j : ℕ) (act act' : Action) (a a' : Answer) (change change' : State → State) (m n : State) → Does L s t i act a change m → Does L s t j act' a' change' n → (act ≡ act') × (i ≡ j)
+pub does_inside : (L : LoadRows) (s : State) (t i j : ℕ) (act act' : Action) (a a' : Answer) (change change' : State → State) (m n : State) → Does L s t i act a change m → Does L s t j act' a' change' n → (act ≡ act') × (i ≡ j)
 does_inside L s t i j act act' a a' change change' m n p q =
     let same = same_acts (wanted L s t) act act' p.fuel q.fuel p.frame q.frame p.wants q.wants in
     (same.doing, p.inside ∙ ap (λ (f : StackFrame). f.instance) same.frame ∙ sym q.inside)
 
--- a top frame that makes an action is the same behind it, but for its choice
-pub does_alike : (L : Load) (s : State) (t i j : ℕ) (act : Action) (a : Answer) (change : State → State) (m n : State) → 0 < t → IsBlind change → Does L s t i act a change m → Does L s t j act a change n → Alike t m n
+-- a top frame that makes an action is the same after it, but for its choice
+pub does_alike : (L : LoadRows) (s : State) (t i j : ℕ) (act : Action) (a : Answer) (change : State → State) (m n : State) → 0 < t → IsBlind change → Does L s t i act a change m → Does L s t j act a change n → Alike t m n
 does_alike L s t i j act a change m n some blind p q =
     let same = same_acts (wanted L s t) act act p.fuel q.fuel p.frame q.frame p.wants q.wants in
     let thread : q.thread ≡ p.thread = (let e = p.of in let e' = q.of in cc) in

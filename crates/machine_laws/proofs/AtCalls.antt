@@ -1,12 +1,14 @@
 -- A client with frames stands at the call of the lowest of them: what keeps that so.
 use Rattle.std.proofs.Common.{◌≡◌, ℕ, List, [], ◌∷◌, ◌++◌, Some, slice_get, refl, ap, sym, subst, ◌∙◌, inl, inr}
 use Rattle.std.proofs.lemmas.Bool.{cases_eq}
-use Rattle.rl_defs.specs.declared.load.Load.{Load}
+use Rattle.rl_defs.specs.declared.load.LoadRows.{LoadRows}
 use Rattle.rl_defs.specs.declared.load.Command.TheVariants as command
-use Rattle.rl_defs.specs.State.{State, StackFrame, Thread, row, stack}
-use Rattle.rl_defs.specs.Loans.{sweep}
-use Rattle.rl_defs.specs.Wanted.{top, commands_of}
-use Rattle.rl_defs.specs.Machine.Frames.{below_top}
+use Rattle.machine_defs.specs.State.{State, StackFrame, Thread, stack}
+use Rattle.rl_defs.specs.Rows.{row}
+use Rattle.machine_defs.specs.Loans.{sweep}
+use Rattle.machine_defs.specs.State.{top}
+use Rattle.rl_defs.specs.Rows.{commands_of}
+use Rattle.machine_defs.specs.Frames.{below_top}
 use Rattle.machine_laws.specs.AtCall.{IsCallOf, AtCall}
 use Rattle.machine_laws.proofs.Turning.{Turned}
 
@@ -47,7 +49,7 @@ lowest_pushed (k ∷ ks) f g on_top h above is =
     (k, ks, refl, ap (λ (x : StackFrame). x.target) (sym here), ap (λ (x : StackFrame). x.method) (sym here))
 
 -- what the frames stand at, where the script is at the same place
-pub stands_at : (L : Load) (s : State) (t place : ℕ) (old : Thread) (frames : List StackFrame) → AtCall L s t → row s.threads t ≡ Some old → place ≡ old.place → SameLowest (stack s t) frames
+pub stands_at : (L : LoadRows) (s : State) (t place : ℕ) (old : Thread) (frames : List StackFrame) → AtCall L s t → row s.threads t ≡ Some old → place ≡ old.place → SameLowest (stack s t) frames
     → (f : StackFrame) (above : List StackFrame) → frames ≡ f ∷ above → IsCallOf (slice_get (commands_of (row L.clients t)) place) f.target f.method
 stands_at L s t place old frames at of same lowest f above is =
     let l = lowest f above is in
@@ -59,7 +61,7 @@ stands_at L s t place old frames at of same lowest f above is =
     )
 
 -- a step of one client keeps where all stand
-pub at_calls_kept : (L : Load) (s z : State) (t : ℕ) (frames : List StackFrame) (new : Thread) → ((u : ℕ) → AtCall L s u) → Turned s z t frames new
+pub at_calls_kept : (L : LoadRows) (s z : State) (t : ℕ) (frames : List StackFrame) (new : Thread) → ((u : ℕ) → AtCall L s u) → Turned s z t frames new
     → ((f : StackFrame) (above : List StackFrame) → frames ≡ f ∷ above → IsCallOf (slice_get (commands_of (row L.clients t)) new.place) f.target f.method) → (u : ℕ) → AtCall L z u
 at_calls_kept L s z t frames new all turned stands u = elim (cases_eq u t) [
   | inl same ↦ subst (AtCall L z) (sym same) (record {
@@ -71,5 +73,5 @@ at_calls_kept L s z t frames new all turned stands u = elim (cases_eq u t) [
   | inr apart ↦ record { calls = λ f above thread is of. (all u).calls f above thread (sym (turned.other_stacks u apart) ∙ is) (sym (turned.other_threads u apart) ∙ of) }
 ]
 
-pub at_call_swept : (L : Load) (s : State) (t : ℕ) → AtCall L s t → AtCall L (sweep s) t
+pub at_call_swept : (L : LoadRows) (s : State) (t : ℕ) → AtCall L s t → AtCall L (sweep s) t
 at_call_swept L s t at = record { calls = λ f above thread is of. at.calls f above thread is of }

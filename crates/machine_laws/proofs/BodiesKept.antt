@@ -1,31 +1,31 @@
--- Stacks fit behind every row.
+-- Stacks fit after every row.
 use Rattle.std.proofs.Common.{◌≡◌, ℕ, ◌<◌, true, ◌⊎◌, List, [], ◌∷◌, refl, ap, arith, inl, inr}
-use Rattle.rl_defs.specs.declared.values.RpcCode.TheVariants as code
-use Rattle.rl_defs.specs.declared.entry.Entry.{Entry}
-use Rattle.rl_defs.specs.declared.entry.Entry.TheVariants as entry
+use Rattle.machine_defs.specs.declared.values.RpcCode.TheVariants as code
+use Rattle.machine_defs.specs.declared.entry.Entry.{Entry}
+use Rattle.machine_defs.specs.declared.entry.Entry.TheVariants as entry
 use Rattle.rl_defs.specs.declared.values.Value.{Value}
-use Rattle.rl_defs.specs.declared.frame.Action.TheVariants as action
-use Rattle.rl_defs.specs.declared.frame.Answer.TheVariants as answer
-use Rattle.rl_defs.specs.declared.load.Load.{Load}
-use Rattle.rl_defs.specs.State.{State, StackFrame, row, stack}
-use Rattle.rl_defs.specs.Loans.{count, sweep as sweep_state}
-use Rattle.rl_defs.specs.Crossing.{is_undone}
-use Rattle.rl_defs.specs.Texts.{thread_of}
-use Rattle.rl_defs.specs.Machine.Objects.{without}
-use Rattle.rl_defs.specs.Machine.Seen.{with_word}
-use Rattle.rl_defs.specs.Machine.NativeFits.{types_of}
-use Rattle.rl_defs.specs.Machine.Frames.{popped}
-use Rattle.rl_defs.specs.Machine.Calling.{is_enabled}
-use Rattle.rl_defs.specs.Machine.CallRows.{Returns, Unwinds, after_return}
-use Rattle.rl_defs.specs.Machine.ObjectRows.{ClientMakes, FrameMakes, ClientDrops, Does}
-use Rattle.rl_defs.specs.Machine.History.{objects_in}
-use Rattle.rl_defs.specs.Machine.Sound.{own_of}
-use Rattle.rl_defs.specs.Machine.Steps.{Row as RowOf}
+use Rattle.machine_defs.specs.declared.frame.Action.TheVariants as action
+use Rattle.machine_defs.specs.declared.frame.Answer.TheVariants as answer
+use Rattle.rl_defs.specs.declared.load.LoadRows.{LoadRows}
+use Rattle.machine_defs.specs.State.{State, StackFrame, stack}
+use Rattle.rl_defs.specs.Rows.{row}
+use Rattle.machine_defs.specs.Loans.{count, sweep as sweep_state}
+use Rattle.machine_defs.specs.Calling.{is_undone}
+use Rattle.machine_defs.specs.Entries.{thread_of}
+use Rattle.machine_defs.specs.Objects.{without}
+use Rattle.machine_defs.specs.Seen.{with_word}
+use Rattle.machine_defs.specs.Seen.{types_of}
+use Rattle.machine_defs.specs.Frames.{popped}
+use Rattle.machine_defs.specs.Calling.{is_enabled}
+use Rattle.machine_defs.specs.CallRows.{Returns, Unwinds, after_return}
+use Rattle.machine_defs.specs.ObjectRows.{ClientMakes, FrameMakes, ClientDrops, Does}
+use Rattle.machine_defs.specs.Arguments.{objects_in}
+use Rattle.machine_defs.specs.Sound.{own_of}
+use Rattle.machine_defs.specs.Steps.{Row as RowOf}
 use Rattle.machine_laws.specs.LedgerOf.{ledger_of}
 use Rattle.machine_laws.specs.LedgerSound.{Owned, Placed}
 use Rattle.machine_laws.specs.Shape.{Laid}
-use Rattle.machine_laws.specs.Plans.{Plans}
-use Rattle.machine_laws.specs.Registers.{HasTables}
+use Rattle.machine_laws.specs.Plans.{Plans, HasTables}
 use Rattle.machine_laws.specs.Fitting.{StackFits, Fitting}
 use Rattle.machine_laws.proofs.Instances.{loads_kept}
 use Rattle.machine_laws.proofs.Acting.{acts_as}
@@ -40,7 +40,7 @@ use Rattle.machine_laws.proofs.CalledFits.{called_fits}
 use Rattle.machine_laws.proofs.RefusedFits.{refused_fits}
 use Rattle.machine_laws.proofs.AgainFits.{again_fits}
 
-module _ (L : Load) (s : State) (plans : Plans L) (tables : HasTables L.tables) (laid : Laid L s) (owned : Owned L (ledger_of L s)) (placed' : Placed L (ledger_of L s)) (fits : Fitting L s) (clients : ClientsCall L s) where
+module _ (L : LoadRows) (s : State) (plans : Plans L) (tables : HasTables L.tables) (laid : Laid L s) (owned : Owned L (ledger_of L s)) (placed' : Placed L (ledger_of L s)) (fits : Fitting L s) (clients : ClientsCall L s) where
   -- the stacks of a state fit
   abbrev pub AllFit : State → Type 0
   AllFit made = (u : ℕ) → StackFits L (sweep_state made) (stack (sweep_state made) u)

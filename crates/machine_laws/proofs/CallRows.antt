@@ -1,13 +1,14 @@
 -- Each row keeps what the history tells of the frames, the instances and the calls.
-use Rattle.std.proofs.Common.{◌≡◌, ℕ, suc, ◌+◌, ◌<◌, ◌≤◌, ◌==◌, true, false, List, [], ◌∷◌, refl, sym, subst, arith, inl, inr, length}
+use Rattle.std.proofs.Common.{◌≡◌, ℕ, not, suc, ◌+◌, ◌<◌, ◌≤◌, ◌==◌, true, false, List, [], ◌∷◌, refl, sym, subst, arith, inl, inr, length}
 use Rattle.std.proofs.lemmas.Bool.{cases_eq, eq-eqb, ne_eqb}
-use Rattle.rl_defs.specs.declared.values.Owner.TheVariants as owner
-use Rattle.rl_defs.specs.declared.entry.Entry.{Entry}
-use Rattle.rl_defs.specs.declared.entry.Entry.TheVariants as entry
-use Rattle.rl_defs.specs.declared.load.Load.{Load}
-use Rattle.rl_defs.specs.Texts.{thread_of}
-use Rattle.rl_defs.specs.Machine.Steps.{Turn}
-use Rattle.rl_defs.specs.Machine.History.{OpenCall, issued_again, open_behind, open_calls, ends, current_behind, current_at, is_call, calls_made, is_reload, is_reload_of}
+use Rattle.machine_defs.specs.declared.values.Owner.TheVariants as owner
+use Rattle.machine_defs.specs.declared.entry.Entry.{Entry}
+use Rattle.machine_defs.specs.declared.entry.Entry.TheVariants as entry
+use Rattle.rl_defs.specs.declared.load.LoadRows.{LoadRows}
+use Rattle.machine_defs.specs.Entries.{thread_of}
+use Rattle.machine_defs.specs.Steps.{Turn}
+use Rattle.machine_defs.specs.History.{OpenCall, open_after, open_calls, ends, current_after, current_at, is_call, calls_made, is_reload, is_reload_of, ended_at, reloads_of, restarts_of}
+use Rattle.machine_laws.proofs.Calls.{issued_again}
 use Rattle.machine_laws.specs.Ledger.{LedgerFrame, Ledger, at, alive}
 use Rattle.machine_laws.specs.LedgerRows.{Runs, callee, Row}
 use Rattle.machine_laws.specs.LedgerSound.{Grounded, Placed}
@@ -20,18 +21,18 @@ turn e frees = record { entry = e; frees = frees }
 -- an entry that only opens or closes calls
 pub record IsCall (e : Entry) : Type 0 where
   pub ends : (i : ℕ) → ends i e ≡ false
-  pub currents : (x j : ℕ) → current_behind x e j ≡ j
+  pub currents : (x j : ℕ) → current_after x e j ≡ j
   pub loads : is_reload e ≡ 0
   pub reloads : (x : ℕ) → is_reload_of x e ≡ 0
 
-module _ (L : Load) (us : List Turn) (s : Ledger) (c : CallsAgree L us s) (p : Placed L s) (frees : List ℕ) where
+module _ (L : LoadRows) (us : List Turn) (s : Ledger) (c : CallsAgree L us s) (p : Placed L s) (frees : List ℕ) where
   newest_again : (t n i : ℕ) (f : LedgerFrame) (fs : List LedgerFrame) → n ≡ f.call → alive s.live f.party ≡ false → Grounded L s.loads s.next_instance s.next_call t (f ∷ fs)
       → issued_again n i (calls_of (f ∷ fs)) ≡ calls_of (record f { party = owner.Instance i; own = [] } ∷ fs)
   newest_again t n i f [] is dead g = absurd (let e = g.0 in let l : alive s.live (owner.Client t) ≡ false = rw e at dead in cc (l))
   newest_again t n i f (h ∷ fs) is dead g = rw (eq-eqb f.call n (sym is), again_less L s.loads s.next_instance s.next_call t n i h fs g.4 (let l = g.2 in omega arith)) refl
 
   -- one stack changes, and the calls are counted
-  calls_stack : (e : Entry) → IsCall e → 0 < thread_of e → thread_of e ≤ length L.clients → (new : List LedgerFrame) (nc : ℕ) → open_behind e (calls_of (s.stack (thread_of e))) ≡ calls_of new → suc (is_call e + calls_made us) ≡ nc
+  calls_stack : (e : Entry) → IsCall e → 0 < thread_of e → thread_of e ≤ length L.clients → (new : List LedgerFrame) (nc : ℕ) → open_after e (calls_of (s.stack (thread_of e))) ≡ calls_of new → suc (is_call e + calls_made us) ≡ nc
       → CallsAgreeIn L (turn e frees ∷ us) s.live (at (thread_of e) new s.stack) s.current s.left s.next_instance nc
   calls_stack e q pos le new nc is counts = record {
     opens = opens_at L us s c (turn e frees) pos le new is;
@@ -51,7 +52,7 @@ module _ (L : Load) (us : List Turn) (s : Ledger) (c : CallsAgree L us s) (p : P
   top e q f fs mine runs = quiet_top L us s c (turn e frees) q f fs mine runs
 
   -- an instance ends
-  calls_end : (e : Entry) (i : ℕ) → i < s.next_instance → ((os : List OpenCall) → open_behind e os ≡ os) → ((j : ℕ) → ends j e ≡ (i == j)) → ((x j : ℕ) → current_behind x e j ≡ j) → is_call e ≡ 0 → is_reload e ≡ 0 → ((x : ℕ) → is_reload_of x e ≡ 0)
+  calls_end : (e : Entry) (i : ℕ) → i < s.next_instance → ((os : List OpenCall) → open_after e os ≡ os) → ((j : ℕ) → ends j e ≡ (i == j)) → ((x j : ℕ) → current_after x e j ≡ j) → is_call e ≡ 0 → is_reload e ≡ 0 → ((x : ℕ) → is_reload_of x e ≡ 0)
       → CallsAgree L (turn e frees ∷ us) (record s { live = at i false s.live })
   calls_end e i opened opens is currents calls loads reloads = record {
     opens = λ u pos le. rw (opens (open_calls us u), cond_same (thread_of e == u) (open_calls us u)) (c.opens u pos le);
@@ -102,7 +103,7 @@ module _ (L : Load) (us : List Turn) (s : Ledger) (c : CallsAgree L us s) (p : P
   calls_row (entry.Reload t x i left) z r = subst (CallsAgree L (turn (entry.Reload t x i left) frees ∷ us)) (sym r.9) (record {
     opens = λ u pos le. rw (cond_same (t == u) (open_calls us u)) (c.opens u pos le);
     ends = λ j pos lt. elim (cases_eq j i) [
-      | inl e ↦ rw (e, at_same i true s.live) (c.never i (let e' = r.6 in omega arith))
+      | inl e ↦ subst (λ q. ended_at (turn (entry.Reload t x i left) frees ∷ us) q ≡ not (at i true s.live q)) (sym e) (rw (at_same i true s.live) (c.never i (let e' = r.6 in omega arith)))
       | inr ne ↦ rw (at_other i true s.live j ne) (c.ends j pos (let e' = r.6 in omega arith))
     ];
     never = λ j le. c.never j (let e' = r.6 in omega arith);
@@ -113,7 +114,7 @@ module _ (L : Load) (us : List Turn) (s : Ledger) (c : CallsAgree L us s) (p : P
     calls = let a = c.calls in omega arith;
     instances = let a = c.instances in let e = r.6 in omega arith;
     reloads = λ y. elim (cases_eq y x) [
-      | inl e ↦ rw (e, at_same x left s.left, eq-eqb x x refl) (let a = c.reloads x in let b = r.5 in omega arith)
+      | inl e ↦ subst (λ q. at x left s.left q + reloads_of (turn (entry.Reload t x i left) frees ∷ us) q ≡ restarts_of L q) (sym e) (rw (at_same x left s.left, eq-eqb x x refl) (let a = c.reloads x in let b = r.5 in omega arith))
       | inr ne ↦ rw (at_other x left s.left y ne, ne_eqb x y (λ e. ne (sym e))) (let a = c.reloads y in omega arith)
     ];
   })

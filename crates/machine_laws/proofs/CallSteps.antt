@@ -2,30 +2,33 @@
 use Rattle.std.proofs.Common.{◌≡◌, ℕ, zero, suc, ◌-◌, ◌<◌, true, false, not, ◌&&◌, List, [], ◌∷◌, ◌++◌, length, map, filter, replicate, Some, None, refl, ap, ap₂, sym, subst, ◌∙◌, arith, inl, inr}
 use Rattle.std.specs.List.{filter_map}
 use Rattle.std.proofs.lemmas.Bool.{eq-eqb, and_parts, or_parts, not-true, false_from_ne_true}
-use Rattle.rl_defs.specs.declared.values.Arg.{Arg}
-use Rattle.rl_defs.specs.declared.values.Arg.TheVariants as arg
+use Rattle.machine_defs.specs.declared.values.Arg.{Arg}
+use Rattle.machine_defs.specs.declared.values.Arg.TheVariants as arg
 use Rattle.rl_defs.specs.declared.tables.MethodRow.{MethodRow}
-use Rattle.rl_defs.specs.declared.entry.Entry.TheVariants as entry
-use Rattle.rl_defs.specs.declared.frame.FrameBody.{FrameBody}
-use Rattle.rl_defs.specs.declared.frame.FrameBody.TheVariants as body
-use Rattle.rl_defs.specs.declared.frame.Action.{Action}
-use Rattle.rl_defs.specs.declared.load.Load.{Load}
+use Rattle.machine_defs.specs.declared.entry.Entry.TheVariants as entry
+use Rattle.machine_defs.specs.declared.frame.FrameBody.{FrameBody}
+use Rattle.machine_defs.specs.declared.frame.FrameBody.TheVariants as body
+use Rattle.machine_defs.specs.declared.frame.Action.{Action}
+use Rattle.rl_defs.specs.declared.load.LoadRows.{LoadRows}
 use Rattle.rl_defs.specs.Domains.{method_of}
-use Rattle.rl_defs.specs.State.{State, StackFrame, Root, row, is_live, current, stack}
-use Rattle.rl_defs.specs.Loans.{count}
-use Rattle.rl_defs.specs.Wanted.{top}
-use Rattle.rl_defs.specs.Crossing.{Wish, has, moved_of, lent_of, value_of, entry_registers, is_undone, is_taken}
-use Rattle.rl_defs.specs.Machine.NativeFits.{types_of, is_target, args_suit}
-use Rattle.rl_defs.specs.Machine.Frames.{frame_of, BeginsBody, Begins}
-use Rattle.rl_defs.specs.Machine.Calling.{wish, refusal, is_none_code, would_enter, would_reenter, waits, is_enabled}
-use Rattle.rl_defs.specs.Machine.CallRows.{Calls}
-use Rattle.rl_defs.specs.Machine.Sound.{object_held, own_of_body}
+use Rattle.machine_defs.specs.State.{State, StackFrame, Root, is_live, current, stack}
+use Rattle.rl_defs.specs.Rows.{row}
+use Rattle.machine_defs.specs.Loans.{count}
+use Rattle.machine_defs.specs.State.{top}
+use Rattle.machine_defs.specs.Calling.{Wish, is_undone, is_taken}
+use Rattle.machine_defs.specs.Arguments.{has, moved_of, lent_of, value_of, entry_registers}
+use Rattle.machine_defs.specs.NativeFits.{args_suit}
+use Rattle.machine_defs.specs.Seen.{types_of}
+use Rattle.rl_defs.specs.Rows.{is_target}
+use Rattle.machine_defs.specs.Frames.{frame_of, BeginsBody, Begins}
+use Rattle.machine_defs.specs.Calling.{wish, refusal, would_enter, would_reenter, waits, is_enabled}
+use Rattle.machine_defs.specs.CallRows.{Calls}
+use Rattle.machine_defs.specs.Sound.{object_held, own_of_body}
 use Rattle.machine_laws.specs.LedgerOf.{frame_entry, ledger_of}
 use Rattle.machine_laws.specs.LedgerSound.{Owned}
 use Rattle.machine_laws.specs.LedgerRows.{MayPass, callee, Row}
 use Rattle.machine_laws.specs.Shape.{Laid}
-use Rattle.machine_laws.specs.Plans.{Plans}
-use Rattle.machine_laws.specs.Registers.{HasTables}
+use Rattle.machine_laws.specs.Plans.{Plans, HasTables}
 use Rattle.machine_laws.specs.Fitting.{Fitting}
 use Rattle.machine_laws.proofs.Seats.{IsIn}
 use Rattle.machine_laws.proofs.Present.{seated}
@@ -35,9 +38,10 @@ use Rattle.machine_laws.proofs.CallingRows.{Caller, call_row}
 use Rattle.machine_laws.proofs.Callers.{frame_caller, calls_well}
 use Rattle.machine_laws.proofs.Owners.{top_root}
 use Rattle.machine_laws.proofs.Counts.{has_counted, counted_has}
+use Rattle.machine_laws.proofs.Parts.{is_none_code}
 
 -- A wished call, whoever makes it: its caller in the ledger, and what it is of.
-pub record Called (L : Load) (s : State) (t : ℕ) (w : Wish) : Type 0 where
+pub record Called (L : LoadRows) (s : State) (t : ℕ) (w : Wish) : Type 0 where
   pub caller : Caller L s t w.charged
   pub target : is_target L w.target ≡ true
   pub method : MethodRow
@@ -46,7 +50,7 @@ pub record Called (L : Load) (s : State) (t : ℕ) (w : Wish) : Type 0 where
   pub passes : MayPass caller.f w.args caller.own
   pub apart : (o : ℕ) → 0 < count o (moved_of w.args) → 0 < count o (lent_of w.args) → ⊥
 
-pub frame_called : (L : Load) (s : State) (t : ℕ) → Plans L → HasTables L.tables → Laid L s → Owned L (ledger_of L s) → Fitting L s → is_undone (row s.threads t) ≡ true → (w : Wish) → FrameWish L s t w → Called L s t w
+pub frame_called : (L : LoadRows) (s : State) (t : ℕ) → Plans L → HasTables L.tables → Laid L s → Owned L (ledger_of L s) → Fitting L s → is_undone (row s.threads t) ≡ true → (w : Wish) → FrameWish L s t w → Called L s t w
 frame_called L s t plans tables laid owned fits ready w wished =
     let well = calls_well L s t plans tables laid owned fits ready w wished in
     record {
@@ -60,10 +64,10 @@ frame_called L s t plans tables laid owned fits ready w wished =
     }
 
 -- what a client's call needs besides, from its script
-abbrev pub ClientsCall : Load → State → Type 0
+abbrev pub ClientsCall : LoadRows → State → Type 0
 ClientsCall L s = (t : ℕ) (w : Wish) → is_undone (row s.threads t) ≡ true → ClientWish L s t w → Called L s t w
 
-pub called : (L : Load) (s : State) (t : ℕ) → Plans L → HasTables L.tables → Laid L s → Owned L (ledger_of L s) → Fitting L s → ClientsCall L s → is_undone (row s.threads t) ≡ true → (w : Wish) → wish L s t ≡ Some w → Called L s t w
+pub called : (L : LoadRows) (s : State) (t : ℕ) → Plans L → HasTables L.tables → Laid L s → Owned L (ledger_of L s) → Fitting L s → ClientsCall L s → is_undone (row s.threads t) ≡ true → (w : Wish) → wish L s t ≡ Some w → Called L s t w
 called L s t plans tables laid owned fits clients ready w wants = elim (wish_as L s t w wants) [
   | inl by_client ↦ clients t w ready by_client
   | inr by_frame ↦ frame_called L s t plans tables laid owned fits ready w by_frame
@@ -86,7 +90,7 @@ own_args lent (arg.Lent p ∷ args) n moved lends =
 pub own_begun : (args : List Arg) (at : ℕ) → ((o : ℕ) → 0 < count o (moved_of args) → 0 < count o (lent_of args) → ⊥) → own_of_body (lent_of args) (body.Code at (entry_registers args)) ≡ moved_of args
 own_begun args at apart = own_args (lent_of args) args (32 - length args) (λ o some. false_from_ne_true (has (lent_of args) o) (λ is. apart o some (has_counted (lent_of args) o is))) (λ o some. counted_has (lent_of args) o some)
 
-pub begun_entry : (L : Load) (z : State) (c x i m : ℕ) (args : List Arg) (f : StackFrame) → ((o : ℕ) → 0 < count o (moved_of args) → 0 < count o (lent_of args) → ⊥) → Begins L z c x i m args f → frame_entry f ≡ callee c x i m args
+pub begun_entry : (L : LoadRows) (z : State) (c x i m : ℕ) (args : List Arg) (f : StackFrame) → ((o : ℕ) → 0 < count o (moved_of args) → 0 < count o (lent_of args) → ⊥) → Begins L z c x i m args f → frame_entry f ≡ callee c x i m args
 begun_entry L z c x i m args f apart begins = go f.body refl begins.is begins.body
   where
     go : (b : FrameBody Action) → f.body ≡ b → f ≡ frame_of c x i m args f.body → BeginsBody L z f f.body → frame_entry f ≡ callee c x i m args
@@ -103,10 +107,10 @@ begun_entry L z c x i m args f apart begins = go f.body refl begins.is begins.bo
         ap frame_entry f_is
 
 -- an enabled thread doesn't wait
-pub not_waiting : (L : Load) (s : State) (t : ℕ) → is_enabled L s t ≡ true → (is_undone (row s.threads t) ≡ true) × (waits L s t ≡ false)
+pub not_waiting : (L : LoadRows) (s : State) (t : ℕ) → is_enabled L s t ≡ true → (is_undone (row s.threads t) ≡ true) × (waits L s t ≡ false)
 not_waiting L s t enabled = let parts = and_parts (is_undone (row s.threads t)) (not (waits L s t)) enabled in (parts.0, not-true (waits L s t) parts.1)
 
-pub enters_free : (L : Load) (s : State) (t : ℕ) (w : Wish) → is_enabled L s t ≡ true → wish L s t ≡ Some w → refusal L s t w.target ≡ None → is_live s (current L s w.target) ≡ true → is_taken L s t (current L s w.target) ≡ false
+pub enters_free : (L : LoadRows) (s : State) (t : ℕ) (w : Wish) → is_enabled L s t ≡ true → wish L s t ≡ Some w → refusal L s t w.target ≡ None → is_live s (current L s w.target) ≡ true → is_taken L s t (current L s w.target) ≡ false
 enters_free L s t w enabled wants none lives =
     let no_wait = (not_waiting L s t enabled).1 in
     let split = or_parts (would_enter L s t (wish L s t)) (would_reenter L s t (top (stack s t))) no_wait in
@@ -115,13 +119,13 @@ enters_free L s t w enabled wants none lives =
     and_false (is_live s (current L s w.target) && is_none_code (refusal L s t w.target)) (is_taken L s t (current L s w.target)) e both
 
 -- what a caller moves is in the heap
-pub moved_there : (L : Load) (s charged : State) (t : ℕ) (args : List Arg) → Owned L (ledger_of L s) → (caller : Caller L s t charged) → MayPass caller.f args caller.own → (o : ℕ) → has (moved_of args) o ≡ true → IsIn s o
+pub moved_there : (L : LoadRows) (s charged : State) (t : ℕ) (args : List Arg) → Owned L (ledger_of L s) → (caller : Caller L s t charged) → MayPass caller.f args caller.own → (o : ℕ) → has (moved_of args) o ≡ true → IsIn s o
 moved_there L s charged t args owned caller passes o is =
     let gone = passes.moved o in
     let some = has_counted (moved_of args) o is in
     seated s o (Root caller.f.party) (top_root L (ledger_of L s) owned t caller.f caller.fs caller.runs o (omega (arith, gone, some)))
 
-module _ (L : Load) (s : State) (plans : Plans L) (tables : HasTables L.tables) (laid : Laid L s) (owned : Owned L (ledger_of L s)) (fits : Fitting L s) (clients : ClientsCall L s) where
+module _ (L : LoadRows) (s : State) (plans : Plans L) (tables : HasTables L.tables) (laid : Laid L s) (owned : Owned L (ledger_of L s)) (fits : Fitting L s) (clients : ClientsCall L s) where
   pub calls : (t c x i m : ℕ) (args : List Arg) (z : State) → is_enabled L s t ≡ true → Calls L s t c x i m args z → Row L (ledger_of L s) (entry.Call t c x i m args) (ledger_of L z)
   calls t c x i m args z enabled r =
       let ready = (not_waiting L s t enabled).0 in

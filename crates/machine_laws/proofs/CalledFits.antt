@@ -1,40 +1,45 @@
--- Stacks fit behind a call that is made: its caller waits, and its frame begins.
+-- Stacks fit after a call that is made: its caller waits, and its frame begins.
 use Rattle.std.proofs.Common.{slice_get, ◌≡◌, ◌≢◌, ℕ, ◌<◌, ◌≤◌, true, List, [], ◌∷◌, ◌++◌, length, Some, refl, ap, ap₂, sym, subst, ◌∙◌, arith, inl, inr, append_assoc}
-use Rattle.rl_defs.specs.declared.values.Arg.{Arg}
+use Rattle.machine_defs.specs.declared.values.Arg.{Arg}
 use Rattle.rl_defs.specs.declared.code.Register.{Register}
 use Rattle.rl_defs.specs.declared.code.CallArg.{CallArg}
 use Rattle.rl_defs.specs.declared.code.Instr.{Instr}
 use Rattle.rl_defs.specs.declared.code.Instr.TheVariants as instr
 use Rattle.rl_defs.specs.declared.tables.MethodRow.{MethodRow}
-use Rattle.rl_defs.specs.declared.entry.Entry.{Entry}
-use Rattle.rl_defs.specs.declared.entry.Entry.TheVariants as entry
+use Rattle.machine_defs.specs.declared.entry.Entry.{Entry}
+use Rattle.machine_defs.specs.declared.entry.Entry.TheVariants as entry
 use Rattle.rl_defs.specs.declared.load.Command.TheVariants as command
-use Rattle.rl_defs.specs.declared.frame.Action.{Action}
-use Rattle.rl_defs.specs.declared.frame.Action.TheVariants as action
-use Rattle.rl_defs.specs.declared.frame.FrameBody.{FrameBody}
-use Rattle.rl_defs.specs.declared.frame.FrameBody.TheVariants as body
-use Rattle.rl_defs.specs.declared.load.Load.{Load}
+use Rattle.machine_defs.specs.declared.frame.Action.{Action}
+use Rattle.machine_defs.specs.declared.frame.Action.TheVariants as action
+use Rattle.machine_defs.specs.declared.frame.FrameBody.{FrameBody}
+use Rattle.machine_defs.specs.declared.frame.FrameBody.TheVariants as body
+use Rattle.rl_defs.specs.declared.load.LoadRows.{LoadRows}
 use Rattle.rl_defs.specs.DomainValue.{Domain}
 use Rattle.rl_defs.specs.Domains.{load_of_target, method_of}
 use Rattle.rl_defs.specs.CodeKinds.{Kinds, kinds_at, kind_in, left, method_called}
-use Rattle.rl_defs.specs.CodeFits.{FitsWaiting}
+use Rattle.machine_defs.specs.CodeFits.{FitsWaiting}
 use Rattle.rl_defs.specs.CodeNames.{methods_of}
-use Rattle.rl_defs.specs.Instructions.{Registers}
-use Rattle.rl_defs.specs.State.{State, StackFrame, row, is_live, current, stack, frames_of}
-use Rattle.rl_defs.specs.Loans.{sweep as sweep_state}
-use Rattle.rl_defs.specs.Crossing.{Wish, is_undone, moved_of}
-use Rattle.rl_defs.specs.Wanted.{instance_load, load_of_instance, Commands, Acts}
-use Rattle.rl_defs.specs.Machine.Seen.{domain_of_instance, words_in}
-use Rattle.rl_defs.specs.Machine.NativeFits.{types_of, trait_if, is_target}
-use Rattle.rl_defs.specs.Machine.Wants.{by_body}
-use Rattle.rl_defs.specs.Machine.Frames.{below_top, with_body, instr_at, waiting, waiting_body}
-use Rattle.rl_defs.specs.Machine.Calling.{is_enabled}
-use Rattle.rl_defs.specs.Machine.CallRows.{Calls}
+use Rattle.rl_defs.specs.Registers.{Registers}
+use Rattle.machine_defs.specs.State.{State, StackFrame, is_live, current, stack, frames_of}
+use Rattle.rl_defs.specs.Rows.{row}
+use Rattle.machine_defs.specs.Loans.{sweep as sweep_state}
+use Rattle.machine_defs.specs.Calling.{Wish, is_undone}
+use Rattle.machine_defs.specs.Arguments.{moved_of}
+use Rattle.machine_defs.specs.State.{instance_load}
+use Rattle.machine_defs.specs.Wants.{Commands, Acts}
+use Rattle.machine_defs.specs.Seen.{domain_of_instance}
+use Rattle.machine_defs.specs.Seen.{types_of}
+use Rattle.rl_defs.specs.Rows.{trait_if, is_target}
+use Rattle.machine_defs.specs.Wants.{by_body}
+use Rattle.machine_defs.specs.Frames.{below_top, with_body, instr_at, waiting, waiting_body}
+use Rattle.machine_defs.specs.Calling.{is_enabled}
+use Rattle.machine_defs.specs.CallRows.{Calls}
+use Rattle.rl_defs.proofs.ValidFacts.{domain_tables}
 use Rattle.machine_laws.specs.LedgerOf.{ledger_of}
 use Rattle.machine_laws.specs.LedgerSound.{Owned, Placed}
 use Rattle.machine_laws.specs.Shape.{Laid}
-use Rattle.machine_laws.specs.Plans.{Plans}
-use Rattle.machine_laws.specs.Registers.{Parted, HasTables}
+use Rattle.machine_laws.specs.Plans.{Plans, HasTables}
+use Rattle.machine_laws.specs.Registers.{Parted}
 use Rattle.machine_laws.specs.Fitting.{BodyFits, CodeWaits, StackFits, Fitting}
 use Rattle.machine_laws.proofs.Rows.{row_set_same, row_set_other}
 use Rattle.machine_laws.proofs.Stacks.{top_splits}
@@ -56,6 +61,7 @@ use Rattle.machine_laws.proofs.DoneFits.{types_kept}
 use Rattle.machine_laws.proofs.BegunFits.{begun_fits}
 use Rattle.machine_laws.proofs.EndSteps.{ready_within}
 use Rattle.machine_laws.proofs.Charged.{stack_charged, instances_charged, others_charged, count_charged}
+use Rattle.machine_laws.proofs.Parts.{load_of_instance, words_in}
 
 -- an instruction that calls a method
 pub record IsCall (d : Domain) (kinds : Kinds) (i : Instr) (method : MethodRow) : Type 0 where
@@ -72,7 +78,7 @@ pub is_call : (d : Domain) (kinds : Kinds) (i : Instr) (method : MethodRow) → 
 is_call d kinds (instr.Call c name args results failed label) method e = record { target = c; name = name; args = args; results = results; failed = failed; label = label; is = refl; calls = e }
 is_call d kinds other method e = absurd cc
 
-module _ (L : Load) (s : State) (plans : Plans L) (tables : HasTables L.tables) (laid : Laid L s) (owned : Owned L (ledger_of L s)) (fits : Fitting L s) (t : ℕ) (ready : is_undone (row s.threads t) ≡ true) (w : Wish) (wished : FrameWish L s t w) where
+module _ (L : LoadRows) (s : State) (plans : Plans L) (tables : HasTables L.tables) (laid : Laid L s) (owned : Owned L (ledger_of L s)) (fits : Fitting L s) (t : ℕ) (ready : is_undone (row s.threads t) ≡ true) (w : Wish) (wished : FrameWish L s t w) where
   abbrev caller : StackFrame
   caller = caller_frame L s t plans tables laid owned fits ready w wished
 
@@ -88,7 +94,7 @@ module _ (L : Load) (s : State) (plans : Plans L) (tables : HasTables L.tables) 
       let well = calls_well L s t plans tables laid owned fits ready w wished in
       let call = is_call d (kinds_at d c.at_rest.stand.at) c.instr c.can.method c.can.is in
       let instr' : instr_at d c.at_rest.stand.at ≡ Some c.instr = instr_here d c.instr c.at_rest.stand c.here in
-      let found : slice_get (methods_of L.tables (trait_if L (is_target L w.target) w.target)) w.method ≡ Some c.can.method = subst (λ tb. slice_get (methods_of tb (trait_if L (is_target L w.target) w.target)) w.method ≡ Some c.can.method) (plans.domains.tables (instance_load s caller.instance)) c.can.row in
+      let found : slice_get (methods_of L.tables (trait_if L (is_target L w.target) w.target)) w.method ≡ Some c.can.method = subst (λ tb. slice_get (methods_of tb (trait_if L (is_target L w.target) w.target)) w.method ≡ Some c.can.method) (domain_tables L plans (instance_load s caller.instance)) c.can.row in
       let same_row : method_of L w.target w.method ≡ Some c.can.method = method_by_trait L w.target w.method plans well.target ∙ found in
       record {
         target = call.target;
@@ -121,7 +127,7 @@ module _ (L : Load) (s : State) (plans : Plans L) (tables : HasTables L.tables) 
           let wants : kept ≡ action.Call g.target g.method g.args = sym same.1 ∙ sym (ap₂ (λ h k. action.Call h k g.args) target method ∙ ap (action.Call w.target w.method) args) in
           subst (λ (h : StackFrame). BodyFits L s h (g ∷ []) h.body) (sym waits_is) (before'.0, wants)
 
-module _ (L : Load) (s : State) (plans : Plans L) (tables : HasTables L.tables) (laid : Laid L s) (owned : Owned L (ledger_of L s)) (placed : Placed L (ledger_of L s)) (fits : Fitting L s) (clients : ClientsCall L s) (t c x i m : ℕ) (args : List Arg) (made : State)
+module _ (L : LoadRows) (s : State) (plans : Plans L) (tables : HasTables L.tables) (laid : Laid L s) (owned : Owned L (ledger_of L s)) (placed : Placed L (ledger_of L s)) (fits : Fitting L s) (clients : ClientsCall L s) (t c x i m : ℕ) (args : List Arg) (made : State)
     (enabled : is_enabled L s t ≡ true) (r : Calls L s t c x i m args made) (owned' : Owned L (ledger_of L (sweep_state made))) where
   abbrev z : State
   z = sweep_state made
@@ -141,7 +147,7 @@ module _ (L : Load) (s : State) (plans : Plans L) (tables : HasTables L.tables) 
   within : (0 < t) × (t ≤ length s.stacks)
   within = ready_within L s t laid ready
 
-  -- the stacks of the state in which the call is charged, and of the one behind it
+  -- the stacks of the state in which the call is charged, and of the one after it
   module _ (front : List StackFrame) (here : stack r.charged t ≡ front) (there : (u : ℕ) → u ≢ t → stack r.charged u ≡ stack s u) (long : length r.charged.stacks ≡ length s.stacks) (instances : r.charged.instances ≡ s.instances) where
     stack_here : stack made t ≡ front ++ begun ∷ []
     stack_here = ap (λ (v : State). stack v t) r.becomes ∙ ap frames_of (row_set_same r.charged.stacks t (stack r.charged t ++ begun ∷ []) within.0 (let e = within.1 in omega (arith, long, e))) ∙ ap (λ fs. fs ++ begun ∷ []) here

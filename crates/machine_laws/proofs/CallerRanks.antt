@@ -2,12 +2,13 @@
 use Rattle.std.proofs.Common.{◌≡◌, ◌≢◌, ℕ, zero, suc, ◌+◌, ◌<◌, ◌==◌, nat_le, Bool, true, false, not, ◌&&◌, List, [], ◌∷◌, ◌++◌, length, Option, Some, None, refl, ap, sym, subst, ◌∙◌, arith, inl, inr, leb-false, leb-true}
 use Rattle.std.specs.List.{list_any}
 use Rattle.std.proofs.lemmas.Bool.{cases_Bool, eq-eqb, ne_eqb, and_parts, or_parts}
-use Rattle.rl_defs.specs.declared.values.Owner.TheVariants as owner
-use Rattle.rl_defs.specs.declared.load.Load.{Load}
+use Rattle.machine_defs.specs.declared.values.Owner.TheVariants as owner
+use Rattle.rl_defs.specs.declared.load.LoadRows.{LoadRows}
 use Rattle.rl_defs.specs.Domains.{is_serial}
-use Rattle.rl_defs.specs.State.{State, StackFrame, row, is_live, stack, frames_of}
-use Rattle.rl_defs.specs.Wanted.{instance_load}
-use Rattle.rl_defs.specs.Crossing.{outranks, is_in, others_in, is_taken}
+use Rattle.machine_defs.specs.State.{State, StackFrame, is_live, stack, frames_of}
+use Rattle.rl_defs.specs.Rows.{row}
+use Rattle.machine_defs.specs.State.{instance_load}
+use Rattle.machine_defs.specs.Calling.{outranks, is_in, others_in, is_taken}
 use Rattle.machine_laws.specs.Ledger.{LedgerFrame}
 use Rattle.machine_laws.specs.LedgerOf.{frame_entry, entries_of, ledger_of}
 use Rattle.machine_laws.specs.LedgerRows.{enters, IsBelow, IsOutranked, IsFree}
@@ -22,7 +23,7 @@ entries_length [] below = omega arith
 entries_length (f ∷ fs) below = let r = entries_length fs (frame_entry f ∷ below) in omega (arith, r)
 
 -- a frame that doesn't outrank
-not_outranking : (L : Load) (s : State) (rank : ℕ) (f : StackFrame) → outranks L s rank f ≡ false
+not_outranking : (L : LoadRows) (s : State) (rank : ℕ) (f : StackFrame) → outranks L s rank f ≡ false
     → (i : ℕ) → owner.Instance f.instance ≡ owner.Instance i → is_live s i ≡ true → is_serial L (instance_load s i) ≡ true → rank < instance_load s i
 not_outranking L s rank f is i same lives serial =
     let e : f.instance ≡ i = cc in
@@ -32,14 +33,14 @@ not_outranking L s rank f is i same lives serial =
     let le : nat_le (instance_load s f.instance) rank ≡ false = and_false (is_live s f.instance && is_serial L (instance_load s f.instance)) (nat_le (instance_load s f.instance) rank) is both in
     subst (λ n. rank < instance_load s n) e (leb-false (instance_load s f.instance) rank le)
 
-pub all_below : (L : Load) (s : State) (rank : ℕ) (fs : List StackFrame) (below : List LedgerFrame) → list_any (outranks L s rank) fs ≡ false
+pub all_below : (L : LoadRows) (s : State) (rank : ℕ) (fs : List StackFrame) (below : List LedgerFrame) → list_any (outranks L s rank) fs ≡ false
     → IsBelow L (ledger_of L s) rank below → IsBelow L (ledger_of L s) rank (entries_of fs below)
 all_below L s rank [] below none under = under
 all_below L s rank (f ∷ fs) below none under =
     let split = or_parts (outranks L s rank f) (list_any (outranks L s rank) fs) none in
     all_below L s rank fs (frame_entry f ∷ below) split.1 (not_outranking L s rank f split.0, under)
 
-pub below_client : (L : Load) (s : State) (rank t : ℕ) (own : Option _) → IsBelow L (ledger_of L s) rank (bottom t own ∷ [])
+pub below_client : (L : LoadRows) (s : State) (rank t : ℕ) (own : Option _) → IsBelow L (ledger_of L s) rank (bottom t own ∷ [])
 below_client L s rank t own = (λ i e. absurd cc, tt)
 
 -- the entries of a stack: some frames over those below
@@ -51,7 +52,7 @@ entries_over (f ∷ fs) below = let r = entries_over fs (frame_entry f ∷ below
     shift [] g below = refl
     shift (h ∷ hs) g below = ap (λ rest. h ∷ rest) (shift hs g below)
 
-pub some_outranks : (L : Load) (s : State) (rank : ℕ) (fs : List StackFrame) (below : List LedgerFrame) → list_any (outranks L s rank) fs ≡ true → IsOutranked L (ledger_of L s) rank (entries_of fs below)
+pub some_outranks : (L : LoadRows) (s : State) (rank : ℕ) (fs : List StackFrame) (below : List LedgerFrame) → list_any (outranks L s rank) fs ≡ true → IsOutranked L (ledger_of L s) rank (entries_of fs below)
 some_outranks L s rank [] below any' = absurd cc
 some_outranks L s rank (f ∷ fs) below any' = elim (cases_Bool (outranks L s rank f)) [
   | inl here ↦
@@ -112,7 +113,7 @@ others_none i t k (gs ∷ stacks) none (suc j) fs is ne =
     let split = or_parts (not (k == t) && is_in i gs) (others_in i t (k + 1) stacks) none in
     others_none i t (k + 1) stacks split.1 j fs is (λ e. ne (omega (arith, e)))
 
-pub free_to_enter : (L : Load) (s : State) (t i : ℕ) → is_taken L s t i ≡ false → IsFree L (ledger_of L s) t i
+pub free_to_enter : (L : LoadRows) (s : State) (t i : ℕ) → is_taken L s t i ≡ false → IsFree L (ledger_of L s) t i
 free_to_enter L s t i free serial u pos le ne here =
     let others : others_in i t 1 s.stacks ≡ false = and_false (is_serial L (instance_load s i)) (others_in i t 1 s.stacks) free serial in
     go u pos ne others here

@@ -3,33 +3,39 @@ use Rattle.std.proofs.Common.{◌≡◌, ℕ, suc, ◌+◌, ◌-◌, ◌<◌, �
 use Rattle.std.specs.List.{list_all}
 use Rattle.std.proofs.lemmas.Bool.{cases_Bool, cases_eq, eqb-true, and_parts, not-true, or_cases}
 use Rattle.std.proofs.lemmas.Option.{slice_get_past}
-use Rattle.rl_defs.specs.declared.values.Arg.{Arg}
+use Rattle.machine_defs.specs.declared.values.Arg.{Arg}
 use Rattle.rl_defs.specs.declared.tables.MethodRow.{MethodRow}
-use Rattle.rl_defs.specs.declared.frame.Action.{Action}
-use Rattle.rl_defs.specs.declared.frame.Action.TheVariants as action
-use Rattle.rl_defs.specs.declared.frame.FrameBody.{FrameBody}
-use Rattle.rl_defs.specs.declared.frame.FrameBody.TheVariants as body
-use Rattle.rl_defs.specs.declared.load.Load.{Load}
+use Rattle.machine_defs.specs.declared.frame.Action.{Action}
+use Rattle.machine_defs.specs.declared.frame.Action.TheVariants as action
+use Rattle.machine_defs.specs.declared.frame.FrameBody.{FrameBody}
+use Rattle.machine_defs.specs.declared.frame.FrameBody.TheVariants as body
+use Rattle.rl_defs.specs.declared.load.LoadRows.{LoadRows}
 use Rattle.rl_defs.specs.DomainValue.{Domain}
 use Rattle.rl_defs.specs.Domains.{method_of}
 use Rattle.rl_defs.specs.CodeNames.{rows_of, methods_of}
-use Rattle.rl_defs.specs.Instructions.{Registers}
-use Rattle.rl_defs.specs.State.{State, StackFrame, Thread, row, stack}
-use Rattle.rl_defs.specs.Loans.{count}
-use Rattle.rl_defs.specs.Wanted.{Acts, instance_load}
-use Rattle.rl_defs.specs.Crossing.{Wish, has, moved_of, lent_of, is_undone}
-use Rattle.rl_defs.specs.Machine.Seen.{domain_of_instance}
-use Rattle.rl_defs.specs.Machine.NativeFits.{types_of, trait_if, is_target, args_suit, are_distinct, CanCall, CanChoose}
-use Rattle.rl_defs.specs.Machine.Wants.{by_body}
-use Rattle.rl_defs.specs.Machine.Frames.{with_body, waiting_body, waiting, moved_by_instr, instr_at}
-use Rattle.rl_defs.specs.Machine.Calling.{with_fuel}
-use Rattle.rl_defs.specs.Machine.Sound.{own_of, own_of_body}
+use Rattle.rl_defs.specs.Registers.{Registers}
+use Rattle.machine_defs.specs.State.{State, StackFrame, Thread, stack}
+use Rattle.rl_defs.specs.Rows.{row}
+use Rattle.machine_defs.specs.Loans.{count}
+use Rattle.machine_defs.specs.Wants.{Acts}
+use Rattle.machine_defs.specs.State.{instance_load}
+use Rattle.machine_defs.specs.Calling.{Wish, is_undone}
+use Rattle.machine_defs.specs.Arguments.{has, moved_of, lent_of}
+use Rattle.machine_defs.specs.Seen.{domain_of_instance}
+use Rattle.machine_defs.specs.NativeFits.{args_suit, are_distinct, CanCall, CanChoose}
+use Rattle.machine_defs.specs.Seen.{types_of}
+use Rattle.rl_defs.specs.Rows.{trait_if, is_target}
+use Rattle.machine_defs.specs.Wants.{by_body}
+use Rattle.machine_defs.specs.Frames.{with_body, waiting_body, waiting, instr_at}
+use Rattle.machine_defs.specs.Calling.{with_fuel}
+use Rattle.machine_defs.specs.Sound.{own_of, own_of_body}
+use Rattle.rl_defs.proofs.ValidFacts.{bind_at, domain_tables, method_by_trait as trait_method}
 use Rattle.machine_laws.specs.LedgerOf.{frame_entry, ledger_of}
 use Rattle.machine_laws.specs.LedgerSound.{Owned}
 use Rattle.machine_laws.specs.LedgerRows.{MayPass, IsBelow, IsOutranked}
 use Rattle.machine_laws.specs.Shape.{Laid}
-use Rattle.machine_laws.specs.Plans.{Plans}
-use Rattle.machine_laws.specs.Registers.{HasTables, own}
+use Rattle.machine_laws.specs.Plans.{Plans, HasTables}
+use Rattle.machine_laws.specs.Registers.{own}
 use Rattle.machine_laws.specs.Fitting.{BodyFits, Fitting}
 use Rattle.machine_laws.proofs.Tops.{bottom, entries, under, entries_top, runs_frame}
 use Rattle.machine_laws.proofs.Acting.{ActsAs, acts_as}
@@ -46,13 +52,14 @@ use Rattle.machine_laws.proofs.OwnActs.{waiting as waiting_stand}
 use Rattle.machine_laws.proofs.OwnFunctions.{instr_here}
 use Rattle.machine_laws.proofs.Counting.{taken}
 use Rattle.machine_laws.proofs.Counts.{has_counted, counted_has, none_counted}
+use Rattle.machine_laws.proofs.Parts.{moved_by_instr}
 
 -- the methods of a target are those of its trait
-pub method_by_trait : (L : Load) (x m : ℕ) → Plans L → is_target L x ≡ true → method_of L x m ≡ slice_get (methods_of L.tables (trait_if L (is_target L x) x)) m
-method_by_trait L x m plans target = plans.traits.methods x m target
+pub method_by_trait : (L : LoadRows) (x m : ℕ) → Plans L → is_target L x ≡ true → method_of L x m ≡ slice_get (methods_of L.tables (trait_if L (is_target L x) x)) m
+method_by_trait L x m plans target = trait_method L plans x m target
 
 -- what has a method is a target
-pub target_by_method : (L : Load) (x m : ℕ) (method : MethodRow) → slice_get (methods_of L.tables (trait_if L (is_target L x) x)) m ≡ Some method → is_target L x ≡ true
+pub target_by_method : (L : LoadRows) (x m : ℕ) (method : MethodRow) → slice_get (methods_of L.tables (trait_if L (is_target L x) x)) m ≡ Some method → is_target L x ≡ true
 target_by_method L x m method is = elim (cases_Bool (is_target L x)) [
   | inl yes' ↦ yes'
   | inr no' ↦
@@ -62,7 +69,7 @@ target_by_method L x m method is = elim (cases_Bool (is_target L x)) [
 ]
 
 -- What a frame's call is of: a target and one of its methods, with arguments that suit; and how it leaves the frame.
-pub record CallsWell (L : Load) (s : State) (f waits : StackFrame) (x m : ℕ) (args : List Arg) : Type 0 where
+pub record CallsWell (L : LoadRows) (s : State) (f waits : StackFrame) (x m : ℕ) (args : List Arg) : Type 0 where
   pub target : is_target L x ≡ true
   pub method : MethodRow
   pub row : method_of L x m ≡ Some method
@@ -112,7 +119,7 @@ each_either P (p ∷ os) is o some =
       | inr e ↦ each_either P os parts.1 o (let z : count o (p ∷ os) ≡ 0 + count o os = ap (λ b. cond b 1 0 + count o os) e in omega (arith, some, z))
     ]
 
-module _ (L : Load) (s : State) (t : ℕ) (plans : Plans L) (tables : HasTables L.tables) (laid : Laid L s) (owned : Owned L (ledger_of L s)) (fits : Fitting L s) (ready : is_undone (row s.threads t) ≡ true) (w : Wish) (wished : FrameWish L s t w) where
+module _ (L : LoadRows) (s : State) (t : ℕ) (plans : Plans L) (tables : HasTables L.tables) (laid : Laid L s) (owned : Owned L (ledger_of L s)) (fits : Fitting L s) (ready : is_undone (row s.threads t) ≡ true) (w : Wish) (wished : FrameWish L s t w) where
   abbrev pub calling : ActsAs L s t (action.Call w.target w.method w.args) wished.fuel wished.frame
   calling = acts_as L s t (action.Call w.target w.method w.args) wished.fuel wished.frame wished.wants
 
@@ -135,7 +142,7 @@ module _ (L : Load) (s : State) (t : ℕ) (plans : Plans L) (tables : HasTables 
       let d : Domain = domain_of_instance L s caller_frame.instance in
       let instr : instr_at d c.at_rest.stand.at ≡ Some c.instr = instr_here d c.instr c.at_rest.stand c.here in
       ap (waiting L s (moved_of w.args)) c.at_rest.frame_is
-      ∙ ap (λ i. with_body caller_frame (body.Code c.at_rest.stand.at (Rattle.rl_defs.specs.CodeFits.all_given_up (moved_by_instr i) c.at_rest.stand.regs))) instr
+      ∙ ap (λ i. with_body caller_frame (body.Code c.at_rest.stand.at (Rattle.machine_defs.specs.Instructions.all_given_up (moved_by_instr i) c.at_rest.stand.regs))) instr
 
   -- a native body that calls
   pub native_calls : (held : List ℕ) (kept : Action) → caller_frame.body ≡ body.Native held kept → (wished.frame ≡ caller_frame) × CanCall L s caller_frame held w.target w.method w.args
@@ -151,7 +158,7 @@ module _ (L : Load) (s : State) (t : ℕ) (plans : Plans L) (tables : HasTables 
       of_code : (at : ℕ) (regs : Registers) → caller_frame.body ≡ body.Code at regs → CallsWell L s caller_frame waits w.target w.method w.args
       of_code at regs is =
           let c = code_calls at regs is in
-          let same = plans.domains.tables (instance_load s caller_frame.instance) in
+          let same = domain_tables L plans (instance_load s caller_frame.instance) in
           let found : slice_get (methods_of L.tables (trait_if L (is_target L w.target) w.target)) w.method ≡ Some c.can.method = subst (λ tb. slice_get (methods_of tb (trait_if L (is_target L w.target) w.target)) w.method ≡ Some c.can.method) same c.can.row in
           let target = target_by_method L w.target w.method c.can.method found in
           let pays : Pays caller_frame.lent c.at_rest.stand.regs (waiting_stand c.instr c.at_rest.stand).regs (action.Call w.target w.method w.args) = c.acts.pays in
@@ -186,7 +193,7 @@ module _ (L : Load) (s : State) (t : ℕ) (plans : Plans L) (tables : HasTables 
           let kept_own : (o : ℕ) → count o (filter (λ p. not (has (moved_of w.args) p)) held) + count o (moved_of w.args) ≡ count o held = λ o. taken (moved_of w.args) o held (once o) (among o) in
           let apart' : (o : ℕ) → 0 < count o (lent_of w.args) → count o (moved_of w.args) ≡ 0 = λ o lent. (let out = each_either (λ p. not (has (moved_of w.args) p)) (lent_of w.args) can.apart o lent in none_counted (moved_of w.args) o (not-true (has (moved_of w.args) o) out)) in
           record {
-            target = plans.binds.target (instance_load s caller_frame.instance) can.import w.target can.bound;
+            target = (bind_at L plans (instance_load s caller_frame.instance) can.import w.target can.bound).2.target;
             method = can.method;
             row = can.row;
             suits = can.suits;

@@ -2,18 +2,19 @@
 use Rattle.std.proofs.Common.{◌≡◌, ℕ, suc, ◌<◌, ◌==◌, true, false, not, ◌&&◌, List, [], ◌∷◌, ◌++◌, length, Option, Some, None, refl, ap, ap₂, sym, subst, ◌∙◌, arith, inl, inr, leb-false, leb-true, add-one}
 use Rattle.std.specs.List.{list_any}
 use Rattle.std.proofs.lemmas.Bool.{cases_Bool, eqb-true, and_parts, not-true}
-use Rattle.rl_defs.specs.declared.values.Arg.{Arg}
-use Rattle.rl_defs.specs.declared.values.Owner.TheVariants as owner
-use Rattle.rl_defs.specs.declared.values.RpcCode.{RpcCode}
-use Rattle.rl_defs.specs.declared.values.RpcCode.TheVariants as code
-use Rattle.rl_defs.specs.declared.entry.Entry.TheVariants as entry
-use Rattle.rl_defs.specs.declared.load.Load.{Load}
+use Rattle.machine_defs.specs.declared.values.Arg.{Arg}
+use Rattle.machine_defs.specs.declared.values.Owner.TheVariants as owner
+use Rattle.machine_defs.specs.declared.values.RpcCode.{RpcCode}
+use Rattle.machine_defs.specs.declared.values.RpcCode.TheVariants as code
+use Rattle.machine_defs.specs.declared.entry.Entry.TheVariants as entry
+use Rattle.rl_defs.specs.declared.load.LoadRows.{LoadRows}
 use Rattle.rl_defs.specs.Domains.{load_of_target, is_serial}
-use Rattle.rl_defs.specs.State.{State, StackFrame, Placement, is_live, current, stack, with_stack}
-use Rattle.rl_defs.specs.Crossing.{has, moved_of, outranks, is_deep, breaks_order}
-use Rattle.rl_defs.specs.Machine.NativeFits.{is_target}
-use Rattle.rl_defs.specs.Machine.Calling.{restarts_left, is_gone, refusal}
-use Rattle.rl_defs.specs.Machine.CallRows.{entered}
+use Rattle.machine_defs.specs.State.{State, StackFrame, Placement, is_live, current, stack, with_stack}
+use Rattle.machine_defs.specs.Arguments.{has, moved_of}
+use Rattle.machine_defs.specs.Calling.{outranks, is_deep, breaks_order}
+use Rattle.rl_defs.specs.Rows.{is_target}
+use Rattle.machine_defs.specs.Calling.{restarts_left, is_gone, refusal}
+use Rattle.machine_defs.specs.CallRows.{call_entered}
 use Rattle.machine_laws.specs.Ledger.{LedgerFrame, Ledger, at}
 use Rattle.machine_laws.specs.LedgerOf.{frame_entry, ledger_of}
 use Rattle.machine_laws.specs.LedgerRows.{Runs, callee, MayPass, IsBelow, IsOutranked, IsFree, IsRefused, with_own, give, Row}
@@ -23,7 +24,7 @@ use Rattle.machine_laws.proofs.Seats.{seats, IsIn, seats_given}
 use Rattle.machine_laws.proofs.Pushing.{at_twice, pushed_ledger}
 
 -- The caller of a wished call: its own frame in the ledger, those under it, and the state in which it has paid and waits with these objects.
-pub record Caller (L : Load) (s : State) (t : ℕ) (charged : State) : Type 0 where
+pub record Caller (L : LoadRows) (s : State) (t : ℕ) (charged : State) : Type 0 where
   pub f : LedgerFrame
   pub fs : List LedgerFrame
   pub own : List ℕ
@@ -36,12 +37,12 @@ pub record Caller (L : Load) (s : State) (t : ℕ) (charged : State) : Type 0 wh
   pub above : (rank : ℕ) → list_any (outranks L s rank) (stack s t) ≡ true → IsOutranked L (ledger_of L s) rank (f ∷ fs)
 
 -- what a refusal that isn't there tells, and one that is
-pub record Unrefused (L : Load) (s : State) (t x : ℕ) : Type 0 where
+pub record Unrefused (L : LoadRows) (s : State) (t x : ℕ) : Type 0 where
   pub shallow : is_deep s t ≡ false
   pub stays : is_gone L s x ≡ false
   pub in_order : breaks_order L s t x ≡ false
 
-pub unrefused : (L : Load) (s : State) (t x : ℕ) → refusal L s t x ≡ None → Unrefused L s t x
+pub unrefused : (L : LoadRows) (s : State) (t x : ℕ) → refusal L s t x ≡ None → Unrefused L s t x
 unrefused L s t x none = elim (cases_Bool (is_deep s t)) [
   | inl a ↦ absurd (let e : Some code.Deep ≡ None = rw a at none in cc)
   | inr a ↦ elim (cases_Bool (is_gone L s x)) [
@@ -53,13 +54,13 @@ unrefused L s t x none = elim (cases_Bool (is_deep s t)) [
   ]
 ]
 
-abbrev pub Reason : Load → State → ℕ → ℕ → RpcCode → Type 0
+abbrev pub Reason : LoadRows → State → ℕ → ℕ → RpcCode → Type 0
 Reason L s t x code.Deep = is_deep s t ≡ true
 Reason L s t x code.Gone = is_gone L s x ≡ true
 Reason L s t x code.Order = breaks_order L s t x ≡ true
 Reason L s t x code.Unwound = ⊥
 
-pub refused_for : (L : Load) (s : State) (t x : ℕ) (why : RpcCode) → refusal L s t x ≡ Some why → Reason L s t x why
+pub refused_for : (L : LoadRows) (s : State) (t x : ℕ) (why : RpcCode) → refusal L s t x ≡ Some why → Reason L s t x why
 refused_for L s t x why is = elim (cases_Bool (is_deep s t)) [
   | inl a ↦ let e : Some code.Deep ≡ Some why = rw a at is in let same : code.Deep ≡ why = cc in subst (Reason L s t x) same a
   | inr a ↦ elim (cases_Bool (is_gone L s x)) [
@@ -71,10 +72,10 @@ refused_for L s t x why is = elim (cases_Bool (is_deep s t)) [
   ]
 ]
 
-pub current_same : (L : Load) (s : State) (x : ℕ) → is_target L x ≡ true → (ledger_of L s).current x ≡ current L s x
+pub current_same : (L : LoadRows) (s : State) (x : ℕ) → is_target L x ≡ true → (ledger_of L s).current x ≡ current L s x
 current_same L s x is = rw is refl
 
-module _ (L : Load) (s charged : State) (t : ℕ) (laid : Laid L s) (caller : Caller L s t charged) where
+module _ (L : LoadRows) (s charged : State) (t : ℕ) (laid : Laid L s) (caller : Caller L s t charged) where
   pub room : is_deep s t ≡ false → length caller.fs < 31
   room shallow = let lt = leb-false 31 (length (stack s t)) shallow in let h = caller.height in omega (arith, lt, h)
 
@@ -83,7 +84,7 @@ module _ (L : Load) (s charged : State) (t : ℕ) (laid : Laid L s) (caller : Ca
 
   pub call_row : (c x i m : ℕ) (args : List Arg) (g : StackFrame) → is_target L x ≡ true → refusal L s t x ≡ None → i ≡ current L s x → is_live s i ≡ true → c ≡ s.next_call
       → IsFree L (ledger_of L s) t i → MayPass caller.f args caller.own → frame_entry g ≡ callee c x i m args → ((o : ℕ) → has (moved_of args) o ≡ true → IsIn s o)
-      → Row L (ledger_of L s) (entry.Call t c x i m args) (ledger_of L (entered t c i args g charged))
+      → Row L (ledger_of L s) (entry.Call t c x i m args) (ledger_of L (call_entered t c i args g charged))
   call_row c x i m args g target none into lives number free passes begins there =
       let no' = unrefused L s t x none in
       let pushed : State = with_stack charged t (stack charged t ++ g ∷ []) in

@@ -1,29 +1,30 @@
--- Behind each row, the calls of all frames fit.
+-- After each row, the calls of all frames fit.
 use Rattle.std.proofs.Common.{◌≡◌, ℕ, ◌-◌, ◌<◌, true, List, [], ◌∷◌, ◌++◌, length, Some, refl, ap, sym, subst, ◌∙◌, arith, inl, inr}
-use Rattle.rl_defs.specs.declared.values.RpcCode.TheVariants as code
-use Rattle.rl_defs.specs.declared.entry.Entry.{Entry}
-use Rattle.rl_defs.specs.declared.entry.Entry.TheVariants as entry
-use Rattle.rl_defs.specs.declared.frame.Action.{Action}
-use Rattle.rl_defs.specs.declared.frame.Answer.{Answer}
-use Rattle.rl_defs.specs.declared.frame.Answer.TheVariants as answer
-use Rattle.rl_defs.specs.declared.load.Load.{Load}
-use Rattle.rl_defs.specs.State.{State, StackFrame, Root, row, stack, with_stack, with_thread}
-use Rattle.rl_defs.specs.Loans.{sweep as sweep_state}
-use Rattle.rl_defs.specs.Texts.{thread_of}
-use Rattle.rl_defs.specs.Crossing.{Wish, has, moved_of, lent_of, is_undone}
-use Rattle.rl_defs.specs.Machine.NativeFits.{types_of}
-use Rattle.rl_defs.specs.Machine.Objects.{without}
-use Rattle.rl_defs.specs.Machine.Frames.{below_top, popped, with_top, with_body, waiting, Begins}
-use Rattle.rl_defs.specs.Machine.Calling.{wish, with_fuel, is_enabled}
-use Rattle.rl_defs.specs.Machine.CallRows.{IssuesAgain, numbered, after_return}
-use Rattle.rl_defs.specs.Machine.ObjectRows.{Does}
-use Rattle.rl_defs.specs.Machine.Steps.{Row as RowOf}
+use Rattle.machine_defs.specs.declared.values.RpcCode.TheVariants as code
+use Rattle.machine_defs.specs.declared.entry.Entry.{Entry}
+use Rattle.machine_defs.specs.declared.entry.Entry.TheVariants as entry
+use Rattle.machine_defs.specs.declared.frame.Action.{Action}
+use Rattle.machine_defs.specs.declared.frame.Answer.{Answer}
+use Rattle.machine_defs.specs.declared.frame.Answer.TheVariants as answer
+use Rattle.rl_defs.specs.declared.load.LoadRows.{LoadRows}
+use Rattle.machine_defs.specs.State.{State, StackFrame, Root, stack, with_stack, with_thread}
+use Rattle.rl_defs.specs.Rows.{row}
+use Rattle.machine_defs.specs.Loans.{sweep as sweep_state}
+use Rattle.machine_defs.specs.Entries.{thread_of}
+use Rattle.machine_defs.specs.Calling.{Wish, is_undone}
+use Rattle.machine_defs.specs.Arguments.{has, moved_of, lent_of}
+use Rattle.machine_defs.specs.Seen.{types_of}
+use Rattle.machine_defs.specs.Objects.{without}
+use Rattle.machine_defs.specs.Frames.{below_top, popped, with_top, with_body, waiting, Begins}
+use Rattle.machine_defs.specs.Calling.{wish, with_fuel, is_enabled}
+use Rattle.machine_defs.specs.CallRows.{IssuesAgain, numbered, after_return}
+use Rattle.machine_defs.specs.ObjectRows.{Does}
+use Rattle.machine_defs.specs.Steps.{Row as RowOf}
 use Rattle.machine_laws.specs.Ledger.{LedgerFrame, lent_in}
 use Rattle.machine_laws.specs.LedgerOf.{ledger_of}
 use Rattle.machine_laws.specs.LedgerSound.{Owned, Placed}
 use Rattle.machine_laws.specs.Shape.{Laid}
-use Rattle.machine_laws.specs.Plans.{Plans}
-use Rattle.machine_laws.specs.Registers.{HasTables}
+use Rattle.machine_laws.specs.Plans.{Plans, HasTables}
 use Rattle.machine_laws.specs.Fitting.{CallsFit, Fitting}
 use Rattle.machine_laws.proofs.Acting.{acts_as}
 use Rattle.machine_laws.proofs.Wishes.{wish_as}
@@ -37,7 +38,7 @@ use Rattle.machine_laws.proofs.CallsKnown.{Known, KnownIn, args_suiting, known_s
 use Rattle.machine_laws.proofs.Sums.{sum_least}
 use Rattle.machine_laws.proofs.Counts.{has_counted}
 
-module _ (L : Load) (s : State) (known : KnownIn L s s) where
+module _ (L : LoadRows) (s : State) (known : KnownIn L s s) where
   -- the frame that did something is on top with another body
   does_known : {t i : ℕ} {act : Action} {a : Answer} {change : State → State} {made : State} → Does L s t i act a change made → ((m : State) → (change m).stacks ≡ m.stacks) → KnownIn L s made
   does_known {t} {i} {act} {a} {change} {made} d stacks =
@@ -81,7 +82,7 @@ module _ (L : Load) (s : State) (known : KnownIn L s s) where
       } in
       subst (KnownIn L s) (sym r.becomes) (known_topped L s s t r.frame known begun)
 
-module _ (L : Load) (s : State) (laid : Laid L s) (owned : Owned L (ledger_of L s)) where
+module _ (L : LoadRows) (s : State) (laid : Laid L s) (owned : Owned L (ledger_of L s)) where
   -- what a caller lends is in the heap
   lent_there : (t : ℕ) (w : Wish) → Called L s t w → (o : ℕ) → has (lent_of w.args) o ≡ true → IsIn s o
   lent_there t w k o is = elim (k.passes.lent o (has_counted (lent_of w.args) o is)) [
@@ -113,7 +114,7 @@ module _ (L : Load) (s : State) (laid : Laid L s) (owned : Owned L (ledger_of L 
         there = λ o h. lent_there t w k o (subst (λ os. has os o ≡ true) lent h);
       }
 
-module _ (L : Load) (s : State) (plans : Plans L) (tables : HasTables L.tables) (laid : Laid L s) (owned : Owned L (ledger_of L s)) (fits : Fitting L s) (clients : ClientFacts L s) where
+module _ (L : LoadRows) (s : State) (plans : Plans L) (tables : HasTables L.tables) (laid : Laid L s) (owned : Owned L (ledger_of L s)) (fits : Fitting L s) (clients : ClientFacts L s) where
   known : KnownIn L s s
   known = known_before L s laid owned fits.calls
 
@@ -157,8 +158,8 @@ module _ (L : Load) (s : State) (plans : Plans L) (tables : HasTables L.tables) 
   known_row (entry.Free o) made enabled r = absurd r
   known_row other made enabled r = known_stacks L s s made (ap (λ (y : State). y.stacks) r.becomes) known
 
--- the calls of all frames fit behind a row and its sweep
-pub calls_kept : (L : Load) (s : State) (e : Entry) (made : State) → Plans L → HasTables L.tables → Laid L s → Owned L (ledger_of L s) → Placed L (ledger_of L s) → Fitting L s → ClientFacts L s → RowOf L s e made → is_enabled L s (thread_of e) ≡ true → Owned L (ledger_of L (sweep_state made))
+-- the calls of all frames fit after a row and its sweep
+pub calls_kept : (L : LoadRows) (s : State) (e : Entry) (made : State) → Plans L → HasTables L.tables → Laid L s → Owned L (ledger_of L s) → Placed L (ledger_of L s) → Fitting L s → ClientFacts L s → RowOf L s e made → is_enabled L s (thread_of e) ≡ true → Owned L (ledger_of L (sweep_state made))
     → (u : ℕ) → CallsFit L (sweep_state made) (stack (sweep_state made) u)
 calls_kept L s e made plans tables laid owned placed fits clients r enabled owned' =
     known_behind L s e made laid owned placed r owned' (known_row L s plans tables laid owned fits clients e made enabled r)

@@ -1,24 +1,26 @@
 -- Frames whose calls fit in the state before a row, with their loans in its heap: those of its stacks, whatever their body, and those that begin.
 use Rattle.std.proofs.Common.{◌≡◌, ℕ, zero, suc, ◌-◌, Bool, true, false, List, [], ◌∷◌, ◌++◌, Option, Some, None, slice_get, slice_set, refl, ap, sym, subst, ◌∙◌, append_assoc}
 use Rattle.std.proofs.lemmas.Bool.{eq-eqb, and_parts}
-use Rattle.rl_defs.specs.declared.values.Arg.{Arg}
-use Rattle.rl_defs.specs.declared.values.Arg.TheVariants as arg
+use Rattle.machine_defs.specs.declared.values.Arg.{Arg}
+use Rattle.machine_defs.specs.declared.values.Arg.TheVariants as arg
 use Rattle.rl_defs.specs.declared.tables.Kind.{Kind}
 use Rattle.rl_defs.specs.declared.tables.Kind.TheVariants as kind
-use Rattle.rl_defs.specs.declared.entry.Entry.{Entry}
-use Rattle.rl_defs.specs.declared.frame.Action.{Action}
-use Rattle.rl_defs.specs.declared.frame.Answer.{Answer}
-use Rattle.rl_defs.specs.declared.frame.FrameBody.{FrameBody}
-use Rattle.rl_defs.specs.declared.load.Load.{Load}
-use Rattle.rl_defs.specs.CodeFits.{Typing}
-use Rattle.rl_defs.specs.State.{State, StackFrame, Root, row, is_live, stack, with_stack, frames_of}
-use Rattle.rl_defs.specs.Loans.{sweep as sweep_state}
-use Rattle.rl_defs.specs.Crossing.{has, lent_of}
-use Rattle.rl_defs.specs.Wanted.{top}
-use Rattle.rl_defs.specs.Machine.NativeFits.{types_of, arg_suits, args_suit}
-use Rattle.rl_defs.specs.Machine.Frames.{below_top, with_top, with_body, Replies, AnswersTop, AnswersFrame}
-use Rattle.rl_defs.specs.Machine.Sound.{arg_stands, args_stand}
-use Rattle.rl_defs.specs.Machine.Steps.{Row as RowOf}
+use Rattle.machine_defs.specs.declared.entry.Entry.{Entry}
+use Rattle.machine_defs.specs.declared.frame.Action.{Action}
+use Rattle.machine_defs.specs.declared.frame.Answer.{Answer}
+use Rattle.machine_defs.specs.declared.frame.FrameBody.{FrameBody}
+use Rattle.rl_defs.specs.declared.load.LoadRows.{LoadRows}
+use Rattle.rl_defs.specs.Registers.{Typing}
+use Rattle.machine_defs.specs.State.{State, StackFrame, Root, is_live, stack, with_stack, frames_of}
+use Rattle.rl_defs.specs.Rows.{row}
+use Rattle.machine_defs.specs.Loans.{sweep as sweep_state}
+use Rattle.machine_defs.specs.Arguments.{has, lent_of}
+use Rattle.machine_defs.specs.State.{top}
+use Rattle.machine_defs.specs.NativeFits.{arg_suits, args_suit}
+use Rattle.machine_defs.specs.Seen.{types_of}
+use Rattle.machine_defs.specs.Frames.{below_top, with_top, with_body, Replies, AnswersTop, AnswersFrame}
+use Rattle.machine_defs.specs.Sound.{arg_stands, args_stand}
+use Rattle.machine_defs.specs.Steps.{Row as RowOf}
 use Rattle.machine_laws.specs.LedgerOf.{ledger_of}
 use Rattle.machine_laws.specs.LedgerSound.{Owned, Placed}
 use Rattle.machine_laws.specs.Shape.{Laid}
@@ -30,15 +32,15 @@ use Rattle.machine_laws.proofs.Agreeing.{laid_z, types_old}
 use Rattle.machine_laws.proofs.Retyping.{lent_later}
 
 -- a frame whose call fits in s, with what was lent to it in the heap of s; each of a stack; and each of all stacks of another state
-pub record Known (L : Load) (s : State) (f : StackFrame) : Type 0 where
+pub record Known (L : LoadRows) (s : State) (f : StackFrame) : Type 0 where
   pub fits : CallFits L s f
   pub there : (o : ℕ) → has f.lent o ≡ true → IsIn s o
 
-abbrev pub AllKnown : Load → State → List StackFrame → Type 0
+abbrev pub AllKnown : LoadRows → State → List StackFrame → Type 0
 AllKnown L s [] = Unit {0}
 AllKnown L s (f ∷ fs) = Known L s f × AllKnown L s fs
 
-abbrev pub KnownIn : Load → State → State → Type 0
+abbrev pub KnownIn : LoadRows → State → State → Type 0
 KnownIn L s m = (u : ℕ) → AllKnown L s (stack m u)
 
 -- arguments that suit their parameters stand
@@ -77,14 +79,14 @@ args_standing types other [] (a ∷ args) lent targets is = absurd cc
 args_standing types other (k ∷ kinds) [] lent targets is = absurd cc
 
 -- a set row is the new one, and the others stay
-set_each : {A : Type 0} (P : Option A → Type 0) (xs : List A) (n : ℕ) (y : A) → ((k : ℕ) → P (slice_get xs k)) → P (Some y) → (k : ℕ) → P (slice_get (slice_set xs n y) k)
+pub set_each : {A : Type 0} (P : Option A → Type 0) (xs : List A) (n : ℕ) (y : A) → ((k : ℕ) → P (slice_get xs k)) → P (Some y) → (k : ℕ) → P (slice_get (slice_set xs n y) k)
 set_each P [] n y each new k = each k
 set_each P (x ∷ xs) zero y each new zero = new
 set_each P (x ∷ xs) zero y each new (suc k) = each (suc k)
 set_each P (x ∷ xs) (suc n) y each new zero = each zero
 set_each P (x ∷ xs) (suc n) y each new (suc k) = set_each P xs n y (λ j. each (suc j)) new k
 
-module _ (L : Load) (s : State) where
+module _ (L : LoadRows) (s : State) where
   -- a call fits whatever the frame's body
   pub known_body : (f : StackFrame) (b : FrameBody Action) → Known L s f → Known L s (with_body f b)
   known_body f b known = record {
@@ -134,7 +136,7 @@ module _ (L : Load) (s : State) where
       by_top (Some f) is answers = by_live f is (is_live m f.instance) answers
 
 -- the frames of a state in which calls fit are known in it
-pub known_before : (L : Load) (s : State) → Laid L s → Owned L (ledger_of L s) → ((t : ℕ) → CallsFit L s (stack s t)) → KnownIn L s s
+pub known_before : (L : LoadRows) (s : State) → Laid L s → Owned L (ledger_of L s) → ((t : ℕ) → CallsFit L s (stack s t)) → KnownIn L s s
 known_before L s laid owned fits t = go [] (stack s t) refl (fits t)
   where
     go : (front fs : List StackFrame) → stack s t ≡ front ++ fs → CallsFit L s fs → AllKnown L s fs
@@ -144,8 +146,8 @@ known_before L s laid owned fits t = go [] (stack s t) refl (fits t)
       go (front ++ f ∷ []) fs (is ∙ sym (append_assoc front (f ∷ []) fs)) fits'.1,
     )
 
--- where the frames of a row's stacks are known before it, their calls fit behind it and its sweep
-module _ (L : Load) (s : State) (e : Entry) (made : State) (laid : Laid L s) (owned : Owned L (ledger_of L s)) (placed : Placed L (ledger_of L s)) (r : RowOf L s e made) (owned' : Owned L (ledger_of L (sweep_state made))) where
+-- where the frames of a row's stacks are known before it, their calls fit after it and its sweep
+module _ (L : LoadRows) (s : State) (e : Entry) (made : State) (laid : Laid L s) (owned : Owned L (ledger_of L s)) (placed : Placed L (ledger_of L s)) (r : RowOf L s e made) (owned' : Owned L (ledger_of L (sweep_state made))) where
   known_fits : (u : ℕ) (below above : List StackFrame) (f : StackFrame) → stack (sweep_state made) u ≡ below ++ f ∷ above → Known L s f → CallFits L (sweep_state made) f
   known_fits u below above f here known = record {
     target = known.fits.target;

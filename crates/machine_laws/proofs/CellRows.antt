@@ -1,16 +1,17 @@
 -- What the history tells of cells: in which of an object's cells another hangs.
 use Rattle.std.proofs.Common.{◌≡◌, ℕ, suc, ◌<◌, ◌≤◌, ◌==◌, true, cond, ◌&&◌, ◌⊎◌, List, [], ◌∷◌, Option, Some, None, refl, ap, sym, ◌∙◌, subst, arith, inl, inr}
 use Rattle.std.proofs.lemmas.Bool.{cases_eq, cases_Bool, eqb-true, eq-eqb, ne_eqb, and_parts, and_from, both_ways}
-use Rattle.rl_defs.specs.declared.values.Owner.{Owner}
-use Rattle.rl_defs.specs.declared.values.Owner.TheVariants as owner
-use Rattle.rl_defs.specs.declared.entry.Entry.{Entry}
-use Rattle.rl_defs.specs.declared.entry.Entry.TheVariants as entry
-use Rattle.rl_defs.specs.declared.load.Load.{Load}
-use Rattle.rl_defs.specs.State.{Placement, Root, Hung}
-use Rattle.rl_defs.specs.Loans.{count}
-use Rattle.rl_defs.specs.Crossing.{has, moved_of}
-use Rattle.rl_defs.specs.Machine.Steps.{Turn}
-use Rattle.rl_defs.specs.Machine.History.{objects_in, in_cell_behind, in_cell}
+use Rattle.machine_defs.specs.declared.values.Owner.{Owner}
+use Rattle.machine_defs.specs.declared.values.Owner.TheVariants as owner
+use Rattle.machine_defs.specs.declared.entry.Entry.{Entry}
+use Rattle.machine_defs.specs.declared.entry.Entry.TheVariants as entry
+use Rattle.rl_defs.specs.declared.load.LoadRows.{LoadRows}
+use Rattle.machine_defs.specs.State.{Placement, Root, Hung}
+use Rattle.machine_defs.specs.Loans.{count}
+use Rattle.machine_defs.specs.Arguments.{has, moved_of}
+use Rattle.machine_defs.specs.Steps.{Turn}
+use Rattle.machine_defs.specs.Arguments.{objects_in}
+use Rattle.machine_defs.specs.History.{cell_after, cell_at}
 use Rattle.machine_laws.specs.Ledger.{LedgerFrame, Ledger, at}
 use Rattle.machine_laws.specs.LedgerRows.{Runs, give, remove, Row}
 use Rattle.machine_laws.specs.LedgerSound.{Owned, Placed}
@@ -23,9 +24,9 @@ use Rattle.machine_laws.proofs.Rows.{at_same, at_other}
 
 -- what hangs is in its cell, and a cell of an object that is there holds nothing else
 pub record CellsAgreeIn (us : List Turn) (seat : ℕ → Option Placement) (next_object : ℕ) : Type 0 where
-  pub full : (v p k : ℕ) → seat v ≡ Some (Hung p k) → in_cell us p k ≡ Some v
-  pub stays : (v p k : ℕ) (x : Placement) → seat p ≡ Some x → in_cell us p k ≡ Some v → seat v ≡ Some (Hung p k)
-  pub unmade : (p k : ℕ) → next_object ≤ p → in_cell us p k ≡ None
+  pub full : (v p k : ℕ) → seat v ≡ Some (Hung p k) → cell_at us p k ≡ Some v
+  pub stays : (v p k : ℕ) (x : Placement) → seat p ≡ Some x → cell_at us p k ≡ Some v → seat v ≡ Some (Hung p k)
+  pub unmade : (p k : ℕ) → next_object ≤ p → cell_at us p k ≡ None
 
 abbrev pub CellsAgree : List Turn → Ledger → Type 0
 CellsAgree us s = CellsAgreeIn us s.seat s.next_object
@@ -37,15 +38,15 @@ both_same a b c d e = let r = and_parts (a == b) (c == d) e in (eqb-true a b r.0
 pub same_both : (a b c d : ℕ) → a ≡ b → c ≡ d → ((a == b) && (c == d)) ≡ true
 same_both a b c d e e' = and_from (a == b) (c == d) (eq-eqb a b e) (eq-eqb c d e')
 
-module _ (L : Load) (us : List Turn) (s : Ledger) (own : Owned L s) (p : Placed L s) (cells : CellsAgree us s) where
+module _ (L : LoadRows) (us : List Turn) (s : Ledger) (own : Owned L s) (p : Placed L s) (cells : CellsAgree us s) where
   -- an entry that hangs nothing and takes nothing down; objects whose place differs were roots or weren't made yet
-  flat : (e : Entry) (seat' : ℕ → Option Placement) (next' : ℕ) → ((q k : ℕ) (x : Option ℕ) → in_cell_behind q k e x ≡ x) → s.next_object ≤ next'
+  flat : (e : Entry) (seat' : ℕ → Option Placement) (next' : ℕ) → ((q k : ℕ) (x : Option ℕ) → cell_after q k e x ≡ x) → s.next_object ≤ next'
       → ((o : ℕ) → (seat' o ≡ s.seat o) ⊎ ((((w : Owner) × (s.seat o ≡ Some (Root w))) ⊎ (s.next_object ≤ o)) × ((q k : ℕ) → seat' o ≡ Some (Hung q k) → ⊥)))
       → CellsAgreeIn (turn e [] ∷ us) seat' next'
   flat e seat' next' quiet le places = record {
-    full = λ v q k is. quiet q k (in_cell us q k) ∙ elim (places v) [ inl same ↦ cells.full v q k (sym same ∙ is) | inr moved ↦ absurd (moved.1 q k is) ];
-    stays = λ v q k x there is. hangs v q k (there_before q x there (λ high. let none = cells.unmade q k high in let is' = sym (quiet q k (in_cell us q k)) ∙ is in cc (none, is'))) (sym (quiet q k (in_cell us q k)) ∙ is);
-    unmade = λ q k high. quiet q k (in_cell us q k) ∙ cells.unmade q k (omega arith);
+    full = λ v q k is. quiet q k (cell_at us q k) ∙ elim (places v) [ inl same ↦ cells.full v q k (sym same ∙ is) | inr moved ↦ absurd (moved.1 q k is) ];
+    stays = λ v q k x there is. hangs v q k (there_before q x there (λ high. let none = cells.unmade q k high in let is' = sym (quiet q k (cell_at us q k)) ∙ is in cc (none, is'))) (sym (quiet q k (cell_at us q k)) ∙ is);
+    unmade = λ q k high. quiet q k (cell_at us q k) ∙ cells.unmade q k (omega arith);
   }
     where
       there_before : (q : ℕ) (x : Placement) → seat' q ≡ Some x → (s.next_object ≤ q → ⊥) → (y : Placement) × (s.seat q ≡ Some y)
@@ -54,7 +55,7 @@ module _ (L : Load) (us : List Turn) (s : Ledger) (own : Owned L s) (p : Placed 
         | inr moved ↦ elim moved.0 [ inl root ↦ (Root root.0, root.1) | inr high ↦ absurd (made high) ]
       ]
 
-      hangs : (v q k : ℕ) → ((y : Placement) × (s.seat q ≡ Some y)) → in_cell us q k ≡ Some v → seat' v ≡ Some (Hung q k)
+      hangs : (v q k : ℕ) → ((y : Placement) × (s.seat q ≡ Some y)) → cell_at us q k ≡ Some v → seat' v ≡ Some (Hung q k)
       hangs v q k there is =
           let was = cells.stays v q k there.0 there.1 is in
           elim (places v) [
@@ -78,14 +79,14 @@ module _ (L : Load) (us : List Turn) (s : Ledger) (own : Owned L s) (p : Placed 
     | inr ne ↦ inl (at_other o x s.seat v ne)
   ]
 
-  quiet : (e : Entry) → ((q k : ℕ) (x : Option ℕ) → in_cell_behind q k e x ≡ x) → CellsAgree (turn e [] ∷ us) s
+  quiet : (e : Entry) → ((q k : ℕ) (x : Option ℕ) → cell_after q k e x ≡ x) → CellsAgree (turn e [] ∷ us) s
   quiet e same = flat e s.seat s.next_object same (omega arith) (λ o. inl refl)
 
   hung : (t o k v : ℕ) (f : LedgerFrame) (fs : List LedgerFrame) → Runs L s t f fs → 0 < count o f.own → 0 < count v f.own
       → ((q : ℕ) → s.seat q ≡ Some (Hung o k) → ⊥) → ((q j : ℕ) → s.seat q ≡ Some (Hung v j) → ⊥)
       → CellsAgreeIn (turn (entry.Hang t o k v) [] ∷ us) (at v (Some (Hung o k)) s.seat) s.next_object
   hung t o k v f fs runs has_o has_v empty leaf = record {
-    full = λ a q j. at_each (λ b y. y ≡ Some (Hung q j) → in_cell (turn (entry.Hang t o k v) [] ∷ us) q j ≡ Some b) v (Some (Hung o k)) s.seat a
+    full = λ a q j. at_each (λ b y. y ≡ Some (Hung q j) → cell_at (turn (entry.Hang t o k v) [] ∷ us) q j ≡ Some b) v (Some (Hung o k)) s.seat a
         (λ is. (let a1 : o ≡ q = cc (is) in let a2 : k ≡ j = cc (is) in rw (same_both o q k j a1 a2) refl))
         (λ ne is. elim (cases_Bool ((o == q) && (k == j))) [
           | inl e ↦ absurd (let r = both_same o q k j e in empty a (is ∙ ap (λ b. Some (Hung b j)) (sym r.0) ∙ ap (λ b. Some (Hung o b)) (sym r.1)))
@@ -94,7 +95,7 @@ module _ (L : Load) (us : List Turn) (s : Ledger) (own : Owned L s) (p : Placed 
     stays = λ a q j x there is. elim (cases_Bool ((o == q) && (k == j))) [
       | inl e ↦ (let r = both_same o q k j e in let is' : Some v ≡ Some a = rw e at is in let a1 : v ≡ a = cc (is') in rw (← a1, ← r.0, ← r.1) (at_same v (Some (Hung o k)) s.seat))
       | inr e ↦ (
-          let is' : in_cell us q j ≡ Some a = rw e at is in
+          let is' : cell_at us q j ≡ Some a = rw e at is in
           let there' : (y : Placement) × (s.seat q ≡ Some y) = at_each (λ b y. y ≡ Some x → (z : Placement) × (s.seat b ≡ Some z)) v (Some (Hung o k)) s.seat q (λ _. (Root f.party, root)) (λ _ was. (x, was)) there in
           let was = cells.stays a q j there'.0 there'.1 is' in
           at_other v (Some (Hung o k)) s.seat a (λ same. let was' : s.seat v ≡ Some (Hung q j) = rw same at was in cc (root, was')) ∙ was)
@@ -107,7 +108,7 @@ module _ (L : Load) (us : List Turn) (s : Ledger) (own : Owned L s) (p : Placed 
 
   unhung : (t o k v : ℕ) (w : Owner) → s.seat v ≡ Some (Hung o k) → CellsAgreeIn (turn (entry.Unhang t o k v) [] ∷ us) (at v (Some (Root w)) s.seat) s.next_object
   unhung t o k v w was = record {
-    full = λ a q j. at_each (λ b y. y ≡ Some (Hung q j) → in_cell (turn (entry.Unhang t o k v) [] ∷ us) q j ≡ Some b) v (Some (Root w)) s.seat a
+    full = λ a q j. at_each (λ b y. y ≡ Some (Hung q j) → cell_at (turn (entry.Unhang t o k v) [] ∷ us) q j ≡ Some b) v (Some (Root w)) s.seat a
         (λ is. absurd (cc (is)))
         (λ ne is. elim (cases_Bool ((o == q) && (k == j))) [
           | inl e ↦ absurd (let r = both_same o q k j e in ne (own.cell a v o k (is ∙ ap (λ b. Some (Hung b j)) (sym r.0) ∙ ap (λ b. Some (Hung o b)) (sym r.1)) was))
@@ -116,7 +117,7 @@ module _ (L : Load) (us : List Turn) (s : Ledger) (own : Owned L s) (p : Placed 
     stays = λ a q j x there is. elim (cases_Bool ((o == q) && (k == j))) [
       | inl e ↦ absurd (let is' : None ≡ Some a = rw e at is in cc (is'))
       | inr e ↦ (
-          let is' : in_cell us q j ≡ Some a = rw e at is in
+          let is' : cell_at us q j ≡ Some a = rw e at is in
           let there' : (y : Placement) × (s.seat q ≡ Some y) = at_each (λ b y. y ≡ Some x → (z : Placement) × (s.seat b ≡ Some z)) v (Some (Root w)) s.seat q (λ _. (Hung o k, was)) (λ _ before. (x, before)) there in
           let hangs = cells.stays a q j there'.0 there'.1 is' in
           at_other v (Some (Root w)) s.seat a (λ same. (

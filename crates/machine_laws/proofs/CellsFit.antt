@@ -5,12 +5,12 @@ use Rattle.std.proofs.lemmas.Bool.{eqb-true}
 use Rattle.rl_defs.specs.declared.tables.Width.TheVariants as width
 use Rattle.rl_defs.specs.declared.tables.Kind.{Kind}
 use Rattle.rl_defs.specs.declared.tables.Kind.TheVariants as kind
-use Rattle.rl_defs.specs.Instructions.{fits_width}
+use Rattle.rl_defs.specs.Widths.{fits_width}
 use Rattle.rl_defs.specs.NativeShapes.{has_cells, is_number}
-use Rattle.rl_defs.specs.Machine.Objects.{overwritten}
-use Rattle.rl_defs.specs.Machine.NativeFits.{number_suits, numbers_suit}
-use Rattle.rl_defs.specs.Machine.Sound.{cell_fits, cells_fit}
-use Rattle.rl_defs.proofs.CodeRegisters.{and_left, and_right}
+use Rattle.machine_defs.specs.Objects.{overwritten}
+use Rattle.rl_defs.specs.Widths.{number_suits, numbers_suit}
+use Rattle.machine_defs.specs.Sound.{cell_fits, cells_fit}
+use Rattle.machine_defs.proofs.CodeRegisters.{and_left, and_right}
 use Rattle.machine_laws.specs.Fitting.{BlockFits}
 
 pub cells_count : (kinds : List Kind) (cells : List ℕ) → cells_fit kinds cells ≡ true → length cells ≡ length kinds

@@ -1,20 +1,21 @@
 -- The state in which a frame's call is charged: the frame waits, and nothing else of the stacks changed.
 use Rattle.std.proofs.Common.{◌≡◌, ◌≢◌, ℕ, ◌-◌, ◌<◌, ◌≤◌, true, List, [], ◌∷◌, ◌++◌, length, slice_set, ap, sym, ◌∙◌}
 use Rattle.std.proofs.lemmas.List.{length-set}
-use Rattle.rl_defs.specs.declared.frame.Action.{Action}
-use Rattle.rl_defs.specs.declared.frame.FrameBody.TheVariants as body
-use Rattle.rl_defs.specs.declared.load.Load.{Load}
-use Rattle.rl_defs.specs.Instructions.{Registers}
-use Rattle.rl_defs.specs.State.{State, StackFrame, row, stack, frames_of}
-use Rattle.rl_defs.specs.Crossing.{Wish, is_undone, moved_of}
-use Rattle.rl_defs.specs.Machine.Seen.{domain_of_instance}
-use Rattle.rl_defs.specs.Machine.Frames.{below_top, waiting_body}
-use Rattle.rl_defs.specs.Machine.Calling.{with_fuel}
+use Rattle.machine_defs.specs.declared.frame.Action.{Action}
+use Rattle.machine_defs.specs.declared.frame.FrameBody.TheVariants as body
+use Rattle.rl_defs.specs.declared.load.LoadRows.{LoadRows}
+use Rattle.rl_defs.specs.Registers.{Registers}
+use Rattle.machine_defs.specs.State.{State, StackFrame, stack, frames_of}
+use Rattle.rl_defs.specs.Rows.{row}
+use Rattle.machine_defs.specs.Calling.{Wish, is_undone}
+use Rattle.machine_defs.specs.Arguments.{moved_of}
+use Rattle.machine_defs.specs.Seen.{domain_of_instance}
+use Rattle.machine_defs.specs.Frames.{below_top, waiting_body}
+use Rattle.machine_defs.specs.Calling.{with_fuel}
 use Rattle.machine_laws.specs.LedgerOf.{ledger_of}
 use Rattle.machine_laws.specs.LedgerSound.{Owned}
 use Rattle.machine_laws.specs.Shape.{Laid}
-use Rattle.machine_laws.specs.Plans.{Plans}
-use Rattle.machine_laws.specs.Registers.{HasTables}
+use Rattle.machine_laws.specs.Plans.{Plans, HasTables}
 use Rattle.machine_laws.specs.Fitting.{Fitting}
 use Rattle.machine_laws.proofs.Rows.{row_set_same, row_set_other}
 use Rattle.machine_laws.proofs.FrameRows.{gone_on}
@@ -22,7 +23,7 @@ use Rattle.machine_laws.proofs.Wishes.{FrameWish}
 use Rattle.machine_laws.proofs.Callers.{caller_frame, waits, native_calls}
 use Rattle.machine_laws.proofs.EndSteps.{ready_within}
 
-module _ (L : Load) (s : State) (plans : Plans L) (tables : HasTables L.tables) (laid : Laid L s) (owned : Owned L (ledger_of L s)) (fits : Fitting L s) (t : ℕ) (ready : is_undone (row s.threads t) ≡ true) (w : Wish) (wished : FrameWish L s t w) where
+module _ (L : LoadRows) (s : State) (plans : Plans L) (tables : HasTables L.tables) (laid : Laid L s) (owned : Owned L (ledger_of L s)) (fits : Fitting L s) (t : ℕ) (ready : is_undone (row s.threads t) ≡ true) (w : Wish) (wished : FrameWish L s t w) where
   abbrev caller : StackFrame
   caller = caller_frame L s t plans tables laid owned fits ready w wished
 

@@ -1,30 +1,34 @@
--- What a client's own frame holds behind the answer to its call.
+-- What a client's own frame holds after the answer to its call.
 use Rattle.std.proofs.Common.{◌≡◌, ℕ, zero, suc, true, List, [], ◌∷◌, length, Some, slice_get, refl, ap, subst, arith, inl, inr, sym}
 use Rattle.std.proofs.lemmas.Bool.{and_parts}
 use Rattle.rl_defs.specs.declared.values.Value.{Value}
 use Rattle.rl_defs.specs.declared.values.Value.TheVariants as value
-use Rattle.rl_defs.specs.declared.values.RpcCode.{RpcCode}
-use Rattle.rl_defs.specs.declared.frame.Answer.TheVariants as answer
+use Rattle.machine_defs.specs.declared.values.RpcCode.{RpcCode}
+use Rattle.machine_defs.specs.declared.frame.Answer.TheVariants as answer
 use Rattle.rl_defs.specs.declared.tables.Kind.{Kind}
 use Rattle.rl_defs.specs.declared.tables.Kind.TheVariants as kind
-use Rattle.rl_defs.specs.declared.load.Load.{Load}
+use Rattle.rl_defs.specs.declared.load.LoadRows.{LoadRows}
 use Rattle.rl_defs.specs.declared.load.Command.TheVariants as command
 use Rattle.rl_defs.specs.CodeKinds.{as_register}
-use Rattle.rl_defs.specs.CodeFits.{Typing, fits_kind, are_values}
+use Rattle.rl_defs.specs.Registers.{Typing, fits_kind}
+use Rattle.machine_defs.specs.CodeFits.{are_values}
 use Rattle.rl_defs.specs.CodeNames.{results_of}
 use Rattle.rl_defs.specs.Domains.{method_of}
-use Rattle.rl_defs.specs.State.{Thread, row}
-use Rattle.rl_defs.specs.Loans.{count}
-use Rattle.rl_defs.specs.Wanted.{commands_of}
-use Rattle.rl_defs.specs.Step.{names_of, after_command}
-use Rattle.rl_defs.specs.Machine.Frames.{results_in}
-use Rattle.rl_defs.specs.Machine.NativeFits.{value_suits, values_suit}
-use Rattle.rl_defs.specs.Machine.Sound.{BindsName}
-use Rattle.rl_defs.specs.Machine.History.{objects_in}
-use Rattle.valid_loads.specs.ScriptFacts.{CallFits}
-use Rattle.rl_defs.proofs.CodeEntries.{as_many}
+use Rattle.machine_defs.specs.State.{Thread}
+use Rattle.rl_defs.specs.Rows.{row}
+use Rattle.machine_defs.specs.Loans.{count}
+use Rattle.rl_defs.specs.Rows.{commands_of}
+use Rattle.machine_defs.specs.Frames.{names_of, after_command}
+use Rattle.machine_defs.specs.Frames.{results_in}
+use Rattle.machine_defs.specs.NativeFits.{value_suits, values_suit}
+use Rattle.rl_defs.specs.Rows.{BindsName}
+use Rattle.machine_defs.specs.Arguments.{objects_in}
+use Rattle.rl_defs.specs.ValidScripts.{CallFits}
+use Rattle.machine_defs.proofs.CodeEntries.{as_many}
+use Rattle.rl_defs.proofs.ValidFacts.{command_fits, lends_none, method_kept}
 use Rattle.machine_laws.specs.LedgerOf.{names_held}
 use Rattle.machine_laws.specs.LedgerRows.{Exchanged}
+use Rattle.rl_defs.proofs.Lists.{contains_at}
 use Rattle.machine_laws.specs.Plans.{Plans}
 use Rattle.machine_laws.specs.AtCall.{IsCallOf}
 use Rattle.machine_laws.proofs.ClientRows.{bind_none}
@@ -57,9 +61,9 @@ no_objects types (kind.Num w ∷ kinds) (value.Obj p ∷ values) is none unlent 
 no_objects types (kind.Cap t ∷ kinds) (value.Obj p ∷ values) is none unlent o = absurd cc
 
 -- where the command at a thread's place is the call, its names hold the results that come back
-module _ (L : Load) (t : ℕ) (plans : Plans L) (thread : Thread) (x m : ℕ) (calls : IsCallOf (slice_get (commands_of (row L.clients t)) thread.place) x m) where
+module _ (L : LoadRows) (t : ℕ) (plans : Plans L) (thread : Thread) (x m : ℕ) (calls : IsCallOf (slice_get (commands_of (row L.clients t)) thread.place) x m) where
   call_fits : CallFits L t thread.place x m calls.0 calls.1
-  call_fits = plans.scripts.fits t thread.place (command.Call x m calls.0 calls.1) calls.2
+  call_fits = command_fits L plans t thread.place (command.Call x m calls.0 calls.1) calls.2
 
   results_same : results_of (method_of L x m) ≡ call_fits.method.results
   results_same = ap results_of call_fits.here
@@ -68,10 +72,10 @@ module _ (L : Load) (t : ℕ) (plans : Plans L) (thread : Thread) (x m : ℕ) (c
       → Exchanged (names_held (Some thread)) [] (objects_in values) (names_held (Some (after_command L t thread values)))
   back_held unused types values suits o =
       let suits' : are_values types call_fits.method.results values ≡ true = rw results_same at suits in
-      let kept = plans.methods.target x m call_fits.method call_fits.here in
+      let kept = method_kept L plans x m call_fits.method call_fits.here in
       rw calls.2 (elim call_fits.count [
         | inl none ↦
-            let z = no_objects types call_fits.method.results values suits' (call_fits.owned none) kept.unlent o in
+            let z = no_objects types call_fits.method.results values suits' (λ q r e. call_fits.owned none r (contains_at call_fits.method.results q (kind.Own r) e)) (lends_none L.tables call_fits.method kept) o in
             rw none (omega (arith, z))
         | inr as_many ↦
             let n = are_length types call_fits.method.results values suits' in
@@ -87,5 +91,5 @@ module _ (L : Load) (t : ℕ) (plans : Plans L) (thread : Thread) (x m : ℕ) (c
       (r.0, record { place = thread.place; next = command.Call x m calls.0 calls.1; here = calls.2; at = i; name = name; kind = r.1 }, r.2)
 
 -- an answer that fails brings nothing
-pub failed_held : (L : Load) (t : ℕ) (thread : Thread) (why : RpcCode) → names_held (Some (after_command L t thread (results_in (answer.Failed why)))) ≡ names_held (Some thread)
+pub failed_held : (L : LoadRows) (t : ℕ) (thread : Thread) (why : RpcCode) → names_held (Some (after_command L t thread (results_in (answer.Failed why)))) ≡ names_held (Some thread)
 failed_held L t thread why = ap (λ names. names_held (Some (record thread { names = names }))) (bind_none (names_of (slice_get (commands_of (row L.clients t)) thread.place)) thread.names)

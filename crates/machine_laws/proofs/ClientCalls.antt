@@ -3,18 +3,23 @@ use Rattle.std.proofs.Common.{◌≡◌, ℕ, ◌-◌, ◌<◌, ◌≤◌, true,
 use Rattle.std.specs.List.{list_any}
 use Rattle.std.proofs.lemmas.Bool.{cases_Bool, and_parts}
 use Rattle.rl_defs.specs.declared.values.Value.TheVariants as value
-use Rattle.rl_defs.specs.declared.values.Arg.{Arg}
+use Rattle.machine_defs.specs.declared.values.Arg.{Arg}
 use Rattle.rl_defs.specs.declared.tables.Kind.TheVariants as kind
-use Rattle.rl_defs.specs.declared.load.Load.{Load}
+use Rattle.rl_defs.specs.declared.load.LoadRows.{LoadRows}
 use Rattle.rl_defs.specs.declared.load.Command.{Command}
 use Rattle.rl_defs.specs.declared.load.Command.TheVariants as command
 use Rattle.rl_defs.specs.declared.load.ScriptArg.TheVariants as given
-use Rattle.rl_defs.specs.State.{State, Thread, row, stack, with_thread}
-use Rattle.rl_defs.specs.Loans.{count}
-use Rattle.rl_defs.specs.Wanted.{held, arg_of}
-use Rattle.rl_defs.specs.Crossing.{Wish, has, kept, moved_of, lent_of, outranks, is_undone}
-use Rattle.rl_defs.specs.Machine.NativeFits.{types_of, args_suit}
-use Rattle.valid_loads.specs.ScriptFacts.{ScriptsStand, CallFits}
+use Rattle.machine_defs.specs.State.{State, Thread, stack, with_thread}
+use Rattle.rl_defs.specs.Rows.{row}
+use Rattle.machine_defs.specs.Loans.{count}
+use Rattle.machine_defs.specs.Wants.{name_held, arg_of}
+use Rattle.machine_defs.specs.Calling.{Wish, unless_moved, outranks, is_undone}
+use Rattle.machine_defs.specs.Arguments.{has, moved_of, lent_of}
+use Rattle.machine_defs.specs.NativeFits.{args_suit}
+use Rattle.machine_defs.specs.Seen.{types_of}
+use Rattle.rl_defs.specs.ValidScripts.{CallFits}
+use Rattle.rl_defs.specs.Valid.{Valid}
+use Rattle.rl_defs.proofs.ValidFacts.{command_fits}
 use Rattle.machine_laws.specs.LedgerOf.{names_held, ledger_of}
 use Rattle.machine_laws.specs.LedgerSound.{Owned}
 use Rattle.machine_laws.specs.LedgerRows.{Runs, MayPass}
@@ -33,7 +38,7 @@ use Rattle.machine_laws.proofs.NameKinds.{Commanding, commanding, held_suits}
 use Rattle.machine_laws.proofs.ClientArgs.{all_bound, args_hold, owned_at}
 use Rattle.machine_laws.proofs.ClientMoves.{moves_some, lends_some, moved_once}
 
-module _ (L : Load) (s : State) (t : ℕ) (scripts : ScriptsStand L) (laid : Laid L s) (owned : Owned L (ledger_of L s)) (fits : Fitting L s) (ready : is_undone (row s.threads t) ≡ true) (w : Wish) (wished : ClientWish L s t w) where
+module _ (L : LoadRows) (s : State) (t : ℕ) (scripts : Valid L) (laid : Laid L s) (owned : Owned L (ledger_of L s)) (fits : Fitting L s) (ready : is_undone (row s.threads t) ≡ true) (w : Wish) (wished : ClientWish L s t w) where
   abbrev pub thread : Thread
   thread = wished.thread
 
@@ -43,15 +48,15 @@ module _ (L : Load) (s : State) (t : ℕ) (scripts : ScriptsStand L) (laid : Lai
   abbrev pub call : Command
   call = command.Call w.target w.method wished.given wished.names
 
-  -- the client behind its call, without the objects that it moves
+  -- the client after its call, without the objects that it moves
   abbrev pub charged_thread : Thread
-  charged_thread = record thread { fuel = L.fuel - 1; names = map (kept (moved_of args)) thread.names }
+  charged_thread = record thread { fuel = L.fuel - 1; names = map (unless_moved (moved_of args)) thread.names }
 
   pub commands : Commanding L s t thread call
   commands = commanding L s t thread call wished.of wished.wants
 
   fit : CallFits L t thread.place w.target w.method wished.given wished.names
-  fit = scripts.fits t thread.place call commands.here
+  fit = command_fits L scripts t thread.place call commands.here
 
   names : NamesFit L s t thread
   names = fits.names t thread wished.of
@@ -68,7 +73,7 @@ module _ (L : Load) (s : State) (t : ℕ) (scripts : ScriptsStand L) (laid : Lai
   once : (o : ℕ) → count o (objects_of thread.names) ≤ 1
   once o = at_most_once L (ledger_of L s) owned t (bottom t (Some thread)) [] runs o
 
-  owned_param : (i k o : ℕ) → slice_get wished.given i ≡ Some (given.Name k) → held thread.names k ≡ Some (value.Obj o) → (r : ℕ) × (slice_get fit.method.params i ≡ Some (kind.Own r))
+  owned_param : (i k o : ℕ) → slice_get wished.given i ≡ Some (given.Name k) → name_held thread.names k ≡ Some (value.Obj o) → (r : ℕ) × (slice_get fit.method.params i ≡ Some (kind.Own r))
   owned_param i k o is holds = owned_at L t thread.place (types_of L s) thread.names (λ j of v. held_suits L t scripts s thread names j of v) (λ x. refl) fit.method.params wished.given fit.suits i k o is holds
 
   moved_most : (o : ℕ) → count o (moved_of args) ≤ 1
@@ -95,11 +100,11 @@ module _ (L : Load) (s : State) (t : ℕ) (scripts : ScriptsStand L) (laid : Lai
               let some = has_counted (moved_of args) o gone in
               let x = moves_some thread.names wished.given o some in
               let mine = held_some thread.names x.name o x.holds in
-              let none : count o (objects_of (map (kept (moved_of args)) thread.names)) ≡ 0 = rw gone at after in
+              let none : count o (objects_of (map (unless_moved (moved_of args)) thread.names)) ≡ 0 = rw gone at after in
               omega (arith, none, some, mine, moved_most o, once o)
           | inr stays ↦
               let none = none_counted (moved_of args) o stays in
-              let same : count o (objects_of (map (kept (moved_of args)) thread.names)) ≡ count o (objects_of thread.names) = rw stays at after in
+              let same : count o (objects_of (map (unless_moved (moved_of args)) thread.names)) ≡ count o (objects_of thread.names) = rw stays at after in
               omega (arith, none, same)
         ];
     lent = λ o some.
@@ -108,7 +113,7 @@ module _ (L : Load) (s : State) (t : ℕ) (scripts : ScriptsStand L) (laid : Lai
         let after = count_kept (moved_of args) o thread.names in
         elim (cases_Bool (has (moved_of args) o)) [
           | inl gone ↦ absurd (apart o (has_counted (moved_of args) o gone) some)
-          | inr stays ↦ let same : count o (objects_of (map (kept (moved_of args)) thread.names)) ≡ count o (objects_of thread.names) = rw stays at after in inl (omega (arith, same, mine))
+          | inr stays ↦ let same : count o (objects_of (map (unless_moved (moved_of args)) thread.names)) ≡ count o (objects_of thread.names) = rw stays at after in inl (omega (arith, same, mine))
         ];
   }
 
@@ -142,5 +147,5 @@ module _ (L : Load) (s : State) (t : ℕ) (scripts : ScriptsStand L) (laid : Lai
       }
 
 -- so the calls of clients pass what they may
-pub clients_call : (L : Load) (s : State) → ScriptsStand L → Laid L s → Owned L (ledger_of L s) → Fitting L s → ClientsCall L s
+pub clients_call : (L : LoadRows) (s : State) → Valid L → Laid L s → Owned L (ledger_of L s) → Fitting L s → ClientsCall L s
 clients_call L s scripts laid owned fits t w ready wished = client_called L s t scripts laid owned fits ready w wished

@@ -3,13 +3,13 @@ use Rattle.std.proofs.Common.{◌≡◌, ℕ, zero, suc, ◌<◌, ◌≤◌, ◌
 use Rattle.std.proofs.lemmas.Bool.{cases_Bool, cases_eq}
 use Rattle.rl_defs.specs.declared.values.Value.{Value}
 use Rattle.rl_defs.specs.declared.values.Value.TheVariants as value
-use Rattle.rl_defs.specs.declared.values.Arg.{Arg}
-use Rattle.rl_defs.specs.declared.values.Arg.TheVariants as arg
+use Rattle.machine_defs.specs.declared.values.Arg.{Arg}
+use Rattle.machine_defs.specs.declared.values.Arg.TheVariants as arg
 use Rattle.rl_defs.specs.declared.load.ScriptArg.{ScriptArg}
 use Rattle.rl_defs.specs.declared.load.ScriptArg.TheVariants as given
-use Rattle.rl_defs.specs.Loans.{count}
-use Rattle.rl_defs.specs.Wanted.{Names, held, passed, lent, arg_of}
-use Rattle.rl_defs.specs.Crossing.{moved_of, lent_of}
+use Rattle.machine_defs.specs.Loans.{count}
+use Rattle.machine_defs.specs.Wants.{Names, name_held, given_arg, lent_arg, arg_of}
+use Rattle.machine_defs.specs.Arguments.{moved_of, lent_of}
 use Rattle.machine_laws.proofs.OwnEntries.{more_moved, more_lent}
 use Rattle.machine_laws.proofs.OwnActs.{is_it}
 
@@ -23,25 +23,25 @@ moved_most o (arg.Lent p) = omega arith
 moved_most o (arg.Cap x) = omega arith
 
 -- what one argument moves or lends
-moved_passed : (v : Option Value) (o : ℕ) → 0 < count o (moved_of (passed v ∷ [])) → v ≡ Some (value.Obj o)
+moved_passed : (v : Option Value) (o : ℕ) → 0 < count o (moved_of (given_arg v ∷ [])) → v ≡ Some (value.Obj o)
 moved_passed None o some = absurd (omega (arith, some))
 moved_passed (Some (value.Num n)) o some = absurd (omega (arith, some))
 moved_passed (Some (value.Cap x)) o some = absurd (omega (arith, some))
 moved_passed (Some (value.Obj p)) o some = ap (λ q. Some (value.Obj q)) (is_it p o some)
 
-moved_lent : (v : Option Value) (o : ℕ) → 0 < count o (moved_of (lent v ∷ [])) → ⊥
+moved_lent : (v : Option Value) (o : ℕ) → 0 < count o (moved_of (lent_arg v ∷ [])) → ⊥
 moved_lent None o some = omega (arith, some)
 moved_lent (Some (value.Num n)) o some = omega (arith, some)
 moved_lent (Some (value.Obj p)) o some = omega (arith, some)
 moved_lent (Some (value.Cap x)) o some = omega (arith, some)
 
-lent_passed : (v : Option Value) (o : ℕ) → 0 < count o (lent_of (passed v ∷ [])) → ⊥
+lent_passed : (v : Option Value) (o : ℕ) → 0 < count o (lent_of (given_arg v ∷ [])) → ⊥
 lent_passed None o some = omega (arith, some)
 lent_passed (Some (value.Num n)) o some = omega (arith, some)
 lent_passed (Some (value.Obj p)) o some = omega (arith, some)
 lent_passed (Some (value.Cap x)) o some = omega (arith, some)
 
-lent_lent : (v : Option Value) (o : ℕ) → 0 < count o (lent_of (lent v ∷ [])) → v ≡ Some (value.Obj o)
+lent_lent : (v : Option Value) (o : ℕ) → 0 < count o (lent_of (lent_arg v ∷ [])) → v ≡ Some (value.Obj o)
 lent_lent None o some = absurd (omega (arith, some))
 lent_lent (Some (value.Num n)) o some = absurd (omega (arith, some))
 lent_lent (Some (value.Cap x)) o some = absurd (omega (arith, some))
@@ -52,25 +52,25 @@ pub record Moves (names : Names) (args : List ScriptArg) (o : ℕ) : Type 0 wher
   pub at : ℕ
   pub name : ℕ
   pub here : slice_get args at ≡ Some (given.Name name)
-  pub holds : held names name ≡ Some (value.Obj o)
+  pub holds : name_held names name ≡ Some (value.Obj o)
 
 pub record Lends (names : Names) (args : List ScriptArg) (o : ℕ) : Type 0 where
   pub at : ℕ
   pub name : ℕ
   pub here : slice_get args at ≡ Some (given.Lent name)
-  pub holds : held names name ≡ Some (value.Obj o)
+  pub holds : name_held names name ≡ Some (value.Obj o)
 
-moved_one : (names : Names) (a : ScriptArg) (o : ℕ) → 0 < count o (moved_of (arg_of names a ∷ [])) → (k : ℕ) × (a ≡ given.Name k) × (held names k ≡ Some (value.Obj o))
+moved_one : (names : Names) (a : ScriptArg) (o : ℕ) → 0 < count o (moved_of (arg_of names a ∷ [])) → (k : ℕ) × (a ≡ given.Name k) × (name_held names k ≡ Some (value.Obj o))
 moved_one names (given.Num n) o some = absurd (omega (arith, some))
 moved_one names (given.Target x) o some = absurd (omega (arith, some))
-moved_one names (given.Lent k) o some = absurd (moved_lent (held names k) o some)
-moved_one names (given.Name k) o some = (k, refl, moved_passed (held names k) o some)
+moved_one names (given.Lent k) o some = absurd (moved_lent (name_held names k) o some)
+moved_one names (given.Name k) o some = (k, refl, moved_passed (name_held names k) o some)
 
 lends_one : (names : Names) (a : ScriptArg) (args : List ScriptArg) (o : ℕ) → 0 < count o (lent_of (arg_of names a ∷ [])) → Lends names (a ∷ args) o
 lends_one names (given.Num n) args o some = absurd (omega (arith, some))
 lends_one names (given.Target x) args o some = absurd (omega (arith, some))
-lends_one names (given.Name k) args o some = absurd (lent_passed (held names k) o some)
-lends_one names (given.Lent k) args o some = record { at = zero; name = k; here = refl; holds = lent_lent (held names k) o some }
+lends_one names (given.Name k) args o some = absurd (lent_passed (name_held names k) o some)
+lends_one names (given.Lent k) args o some = record { at = zero; name = k; here = refl; holds = lent_lent (name_held names k) o some }
 
 pub moves_some : (names : Names) (args : List ScriptArg) (o : ℕ) → 0 < count o (moved_of (map (arg_of names) args)) → Moves names args o
 moves_some names [] o some = absurd (omega (arith, some))
@@ -91,7 +91,7 @@ lends_some names (a ∷ args) o some =
     ]
 
 -- an object that no two arguments move is moved once
-pub moved_once : (names : Names) (args : List ScriptArg) (o : ℕ) → ((i j k l : ℕ) → slice_get args i ≡ Some (given.Name k) → held names k ≡ Some (value.Obj o) → slice_get args j ≡ Some (given.Name l) → held names l ≡ Some (value.Obj o) → i ≡ j)
+pub moved_once : (names : Names) (args : List ScriptArg) (o : ℕ) → ((i j k l : ℕ) → slice_get args i ≡ Some (given.Name k) → name_held names k ≡ Some (value.Obj o) → slice_get args j ≡ Some (given.Name l) → name_held names l ≡ Some (value.Obj o) → i ≡ j)
     → count o (moved_of (map (arg_of names) args)) ≤ 1
 moved_once names [] o apart = omega arith
 moved_once names (a ∷ args) o apart =

@@ -4,27 +4,30 @@ use mathlib.Core.Path.{fun_ext}
 use Rattle.std.proofs.lemmas.Bool.{cases_eq}
 use Rattle.rl_defs.specs.declared.values.Value.{Value}
 use Rattle.rl_defs.specs.declared.values.Value.TheVariants as value
-use Rattle.rl_defs.specs.declared.values.Cause.{Cause}
-use Rattle.rl_defs.specs.declared.values.Owner.{Owner}
-use Rattle.rl_defs.specs.declared.values.Owner.TheVariants as owner
-use Rattle.rl_defs.specs.declared.entry.Entry.TheVariants as entry
-use Rattle.rl_defs.specs.declared.frame.Action.TheVariants as action
-use Rattle.rl_defs.specs.declared.load.Load.{Load}
+use Rattle.machine_defs.specs.declared.values.Cause.{Cause}
+use Rattle.machine_defs.specs.declared.values.Owner.{Owner}
+use Rattle.machine_defs.specs.declared.values.Owner.TheVariants as owner
+use Rattle.machine_defs.specs.declared.entry.Entry.TheVariants as entry
+use Rattle.machine_defs.specs.declared.frame.Action.TheVariants as action
+use Rattle.rl_defs.specs.declared.load.LoadRows.{LoadRows}
 use Rattle.rl_defs.specs.declared.load.Command.{Command}
 use Rattle.rl_defs.specs.declared.load.Command.TheVariants as command
-use Rattle.rl_defs.specs.State.{State, StackFrame, Thread, Placement, Root, Hung, row, is_live, stack, with_thread}
-use Rattle.rl_defs.specs.Loans.{count}
-use Rattle.rl_defs.specs.Wanted.{Names, Finishes, Skips, Commands, commands_of}
-use Rattle.rl_defs.specs.Crossing.{is_undone, has}
-use Rattle.rl_defs.specs.Step.{bind, names_of}
-use Rattle.rl_defs.specs.Machine.Objects.{with_new}
-use Rattle.rl_defs.specs.Machine.Seen.{ended}
-use Rattle.rl_defs.specs.Machine.NativeFits.{is_target}
-use Rattle.rl_defs.specs.Machine.Wants.{wanted}
-use Rattle.rl_defs.specs.Machine.Calling.{with_fuel}
-use Rattle.rl_defs.specs.Machine.CallRows.{Traps, Kills, command_done}
-use Rattle.rl_defs.specs.Machine.ObjectRows.{ClientMakes, ClientDrops, without_name, Shows, Passes, Ends}
-use Rattle.rl_defs.specs.Machine.History.{objects_in}
+use Rattle.machine_defs.specs.State.{State, StackFrame, Thread, Placement, Root, Hung, is_live, stack, with_thread}
+use Rattle.rl_defs.specs.Rows.{row}
+use Rattle.machine_defs.specs.Loans.{count}
+use Rattle.machine_defs.specs.Wants.{Names, Finishes, Skips, Commands}
+use Rattle.rl_defs.specs.Rows.{commands_of}
+use Rattle.machine_defs.specs.Calling.{is_undone}
+use Rattle.machine_defs.specs.Arguments.{has}
+use Rattle.machine_defs.specs.Frames.{bind, names_of}
+use Rattle.machine_defs.specs.Objects.{with_new}
+use Rattle.machine_defs.specs.Seen.{ended}
+use Rattle.rl_defs.specs.Rows.{is_target}
+use Rattle.machine_defs.specs.Wants.{wanted}
+use Rattle.machine_defs.specs.Calling.{with_fuel}
+use Rattle.machine_defs.specs.CallRows.{Traps, Kills, command_done}
+use Rattle.machine_defs.specs.ObjectRows.{ClientMakes, ClientDrops, without_name, Shows, SkipsCommand, FinishesScript}
+use Rattle.machine_defs.specs.Arguments.{objects_in}
 use Rattle.machine_laws.specs.Ledger.{LedgerFrame, Ledger, at}
 use Rattle.machine_laws.specs.LedgerOf.{frame_entry, names_held, is_done, ledger_of}
 use Rattle.machine_laws.specs.LedgerRows.{Exchanged, Row}
@@ -44,7 +47,7 @@ bind_none [] names = refl
 bind_none (k ∷ ks) names = refl
 
 -- a thread that changes nothing that the ledger reads
-pub thread_alike : (L : Load) (s : State) (t : ℕ) (old new : Thread) → Laid L s → row s.threads t ≡ Some old → Alike old new → ledger_of L (with_thread s t new) ≡ ledger_of L s
+pub thread_alike : (L : LoadRows) (s : State) (t : ℕ) (old new : Thread) → Laid L s → row s.threads t ≡ Some old → Alike old new → ledger_of L (with_thread s t new) ≡ ledger_of L s
 thread_alike L s t old new laid of alike =
     let w = client_within L s t old laid of in
     let all' = thread_at L s t new laid w.0 w.1 in
@@ -53,18 +56,18 @@ thread_alike L s t old new laid of alike =
     (all' ∙ ap (λ fs. at t fs ((ledger_of L s).stack)) here ∙ at_self t ((ledger_of L s).stack))
     (done_same L s t old new of alike.done)
 
-pub command_alike : (L : Load) (t : ℕ) (thread : Thread) → Alike thread (command_done L t [] thread)
+pub command_alike : (L : LoadRows) (t : ℕ) (thread : Thread) → Alike thread (command_done L t [] thread)
 command_alike L t thread = record { names = bind_none (names_of (slice_get (commands_of (row L.clients t)) thread.place)) thread.names; done = refl }
 
 -- an instance that ends
-pub ended_ledger : (L : Load) (s : State) (i : ℕ) → ledger_of L (ended i s) ≡ record (ledger_of L s) { live = at i false (is_live s) }
+pub ended_ledger : (L : LoadRows) (s : State) (i : ℕ) → ledger_of L (ended i s) ≡ record (ledger_of L s) { live = at i false (is_live s) }
 ended_ledger L s i = go (loads_kept s i _ (λ x. refl)) (lives_ended s i) (count_kept s i _) (words_kept s i _ (λ x. refl)) (slots_kept s i _ (λ x. refl))
   where
     go : {loads : ℕ → ℕ} {live live' : ℕ → Bool} {next : ℕ} {words : ℕ → ℕ → ℕ} {slots : ℕ → List (Option ℕ)} → loads ≡ (ledger_of L s).loads → live ≡ live' → next ≡ (ledger_of L s).next_instance → words ≡ (ledger_of L s).words → slots ≡ (ledger_of L s).slots
         → record (ledger_of L s) { loads = loads; live = live; next_instance = next; words = words; slots = slots } ≡ record (ledger_of L s) { live = live' }
     go a b n c d = rw (a, b, n, c, d) refl
 
-module _ (L : Load) (s z : State) (t : ℕ) (laid : Laid L s) (ready : is_undone (row s.threads t) ≡ true) where
+module _ (L : LoadRows) (s z : State) (t : ℕ) (laid : Laid L s) (ready : is_undone (row s.threads t) ≡ true) where
   pub trap_row : (i : ℕ) (cause : Cause) → Traps L s t i cause z → Row L (ledger_of L s) (entry.Trap t i cause) (ledger_of L z)
   trap_row i cause r =
       let doing = acts_as L s t (action.Trap cause) r.fuel r.frame r.wants in
@@ -148,7 +151,7 @@ module _ (L : Load) (s z : State) (t : ℕ) (laid : Laid L s) (ready : is_undone
         ap (ledger_of L) d.does.becomes ∙ thread_alike L s t d.does.thread (command_done L t [] d.does.thread) laid d.does.of (command_alike L t d.does.thread),
       )
 
-  pub skip_row : (number : ℕ) → Passes L s t number z → Row L (ledger_of L s) (entry.Skip t number) (ledger_of L z)
+  pub skip_row : (number : ℕ) → SkipsCommand L s t number z → Row L (ledger_of L s) (entry.Skip t number) (ledger_of L z)
   skip_row number r =
       let doing = commands_as L s t (Skips number) tt r.wants in (
         bottom t (Some r.thread),
@@ -156,7 +159,7 @@ module _ (L : Load) (s z : State) (t : ℕ) (laid : Laid L s) (ready : is_undone
         ap (ledger_of L) r.becomes ∙ thread_alike L s t r.thread (command_done L t [] r.thread) laid r.of (command_alike L t r.thread),
       )
 
-  pub done_row : Ends L s t z → Row L (ledger_of L s) (entry.Done t) (ledger_of L z)
+  pub done_row : FinishesScript L s t z → Row L (ledger_of L s) (entry.Done t) (ledger_of L z)
   done_row r =
       let doing = commands_as L s t Finishes tt r.wants in
       let new : Thread = record r.thread { done = true } in

@@ -1,31 +1,36 @@
--- A code frame that acts: where it stands, what it may do, and what it has of its own before and behind its action.
+-- A code frame that acts: where it stands, what it may do, and what it has of its own before and after its action.
 use Rattle.std.proofs.Common.{◌≡◌, ℕ, zero, suc, ◌<◌, ◌≤◌, true, [], length, Some, refl, ap, ap₂, sym, subst, ◌∙◌, arith, inl, inr}
 use Rattle.rl_defs.specs.declared.code.Instr.{Instr}
-use Rattle.rl_defs.specs.declared.values.Cause.{Cause}
-use Rattle.rl_defs.specs.declared.frame.Action.{Action}
-use Rattle.rl_defs.specs.declared.frame.Action.TheVariants as action
-use Rattle.rl_defs.specs.declared.frame.FrameBody.TheVariants as body
-use Rattle.rl_defs.specs.declared.load.Load.{Load}
+use Rattle.machine_defs.specs.declared.values.Cause.{Cause}
+use Rattle.machine_defs.specs.declared.frame.Action.{Action}
+use Rattle.machine_defs.specs.declared.frame.Action.TheVariants as action
+use Rattle.machine_defs.specs.declared.frame.FrameBody.TheVariants as body
+use Rattle.rl_defs.specs.declared.load.LoadRows.{LoadRows}
 use Rattle.rl_defs.specs.DomainValue.{Domain}
-use Rattle.rl_defs.specs.Sight.{Sight}
-use Rattle.rl_defs.specs.declared.values.Cause.TheVariants as cause
+use Rattle.machine_defs.specs.Sight.{Sight}
+use Rattle.machine_defs.specs.declared.values.Cause.TheVariants as cause
 use Rattle.rl_defs.specs.declared.load.LoadRow.{LoadRow}
 use Rattle.rl_defs.specs.Domains.{load_row, method_of}
 use Rattle.rl_defs.specs.CodeNames.{method_at, method_of_function, function_at}
 use Rattle.rl_defs.specs.CodeKinds.{kinds_at}
-use Rattle.rl_defs.specs.CodeLaws.{StandsAt, Acts as ActsAt}
-use Rattle.rl_defs.specs.CodeFits.{KeepsRules, FitsStand}
-use Rattle.rl_defs.specs.Instructions.{Stand, Registers, Would, Settled, Nowhere, Before, settle, work}
-use Rattle.rl_defs.specs.State.{State, StackFrame, is_live, stack}
-use Rattle.rl_defs.specs.Loans.{count}
-use Rattle.rl_defs.specs.Wanted.{Acts, load_of_instance, instance_load}
-use Rattle.rl_defs.specs.Machine.Seen.{domain_of_load, domain_of_instance, seen}
-use Rattle.rl_defs.specs.Machine.NativeFits.{types_of}
-use Rattle.rl_defs.specs.Machine.Wants.{by_body, settled}
-use Rattle.rl_defs.specs.Machine.Frames.{below_top, with_body}
+use Rattle.machine_defs.specs.CodeLaws.{StandsAt, Acts as ActsAt}
+use Rattle.rl_defs.specs.CodeRules.{KeepsRules}
+use Rattle.machine_defs.specs.CodeFits.{FitsStand}
+use Rattle.rl_defs.specs.Registers.{Stand, Registers}
+use Rattle.machine_defs.specs.Instructions.{Would, Settled, Nowhere, Before, settle, work}
+use Rattle.machine_defs.specs.State.{State, StackFrame, is_live, stack}
+use Rattle.machine_defs.specs.Loans.{count}
+use Rattle.machine_defs.specs.Wants.{Acts}
+use Rattle.machine_defs.specs.State.{instance_load}
+use Rattle.rl_defs.specs.Rows.{domain_of_load}
+use Rattle.machine_defs.specs.Seen.{domain_of_instance, seen}
+use Rattle.machine_defs.specs.Seen.{types_of}
+use Rattle.machine_defs.specs.Wants.{by_body, settled}
+use Rattle.machine_defs.specs.Frames.{below_top, with_body}
+use Rattle.rl_defs.proofs.ValidFacts.{domain_at, domain_tables}
 use Rattle.machine_laws.specs.Shape.{Laid}
-use Rattle.machine_laws.specs.Plans.{Plans}
-use Rattle.machine_laws.specs.Registers.{Parted, HasTables, own}
+use Rattle.machine_laws.specs.Plans.{Plans, HasTables}
+use Rattle.machine_laws.specs.Registers.{Parted, own}
 use Rattle.machine_laws.specs.Fitting.{CodeRuns, BodyFits, StackFits, Fitting}
 use Rattle.machine_laws.proofs.Stacks.{top_splits}
 use Rattle.machine_laws.proofs.Instances.{live_there}
@@ -37,18 +42,19 @@ use Rattle.machine_laws.proofs.OwnActs.{ActsOwn, acts_own}
 use Rattle.machine_laws.proofs.OwnFits.{FitsAct, act_fits}
 use Rattle.machine_laws.proofs.OwnFunctions.{settle_function}
 use Rattle.machine_laws.proofs.Rows.{item_there}
+use Rattle.machine_laws.proofs.Parts.{load_of_instance}
 
 -- what the rules of interfaces leave in the tables
-pub has_tables : (L : Load) (k : ℕ) → Plans L → HasTables L.tables → HasTables (domain_of_load L k).tables
-has_tables L k plans tables = subst HasTables (sym (plans.domains.tables k)) tables
+pub has_tables : (L : LoadRows) (k : ℕ) → Plans L → HasTables L.tables → HasTables (domain_of_load L k).tables
+has_tables L k plans tables = subst HasTables (sym (domain_tables L plans k)) tables
 
 -- where register work has come to
-pub record Settles (L : Load) (s : State) (f : StackFrame) (at fuel : ℕ) (regs : Registers) (act : Action) (rest : ℕ) (frame : StackFrame) : Type 0 where
+pub record Settles (L : LoadRows) (s : State) (f : StackFrame) (at fuel : ℕ) (regs : Registers) (act : Action) (rest : ℕ) (frame : StackFrame) : Type 0 where
   pub stand : Stand
   pub settles : settle (domain_of_instance L s f.instance) (seen L s f.instance) (length s.objects) fuel (record { at = at; regs = regs }) ≡ Before act rest stand
   pub frame_is : frame ≡ with_body f (body.Code stand.at stand.regs)
 
-pub settles_so : (L : Load) (s : State) (f : StackFrame) (at fuel : ℕ) (regs : Registers) (act : Action) (rest : ℕ) (frame : StackFrame) → by_body L s fuel f (body.Code at regs) ≡ Acts act rest frame → Settles L s f at fuel regs act rest frame
+pub settles_so : (L : LoadRows) (s : State) (f : StackFrame) (at fuel : ℕ) (regs : Registers) (act : Action) (rest : ℕ) (frame : StackFrame) → by_body L s fuel f (body.Code at regs) ≡ Acts act rest frame → Settles L s f at fuel regs act rest frame
 settles_so L s f at fuel regs act rest frame e = go (settle (domain_of_instance L s f.instance) (seen L s f.instance) (length s.objects) fuel (record { at = at; regs = regs })) refl e
   where
     go : (found : Settled) → settle (domain_of_instance L s f.instance) (seen L s f.instance) (length s.objects) fuel (record { at = at; regs = regs }) ≡ found → settled f found ≡ Acts act rest frame → Settles L s f at fuel regs act rest frame
@@ -60,21 +66,21 @@ settles_so L s f at fuel regs act rest frame e = go (settle (domain_of_instance 
         record { stand = stand; settles = is ∙ ap₂ (λ x y. Before x y stand) a r; frame_is = sym g }
 
 -- a load of 1 to the count of loads has its row
-pub load_there : (L : Load) (k : ℕ) → 0 < k → k ≤ length L.loads → (l : LoadRow) × (load_row L k ≡ Some l)
+pub load_there : (L : LoadRows) (k : ℕ) → 0 < k → k ≤ length L.loads → (l : LoadRow) × (load_row L k ≡ Some l)
 load_there L zero pos le = absurd (omega arith)
 load_there L (suc k) pos le = item_there L.loads k (omega arith)
 
 -- the domain of a live instance keeps the rules
-pub keeps_rules : (L : Load) (s : State) (i : ℕ) → Plans L → Fitting L s → is_live s i ≡ true → KeepsRules (domain_of_instance L s i)
+pub keeps_rules : (L : LoadRows) (s : State) (i : ℕ) → Plans L → Fitting L s → is_live s i ≡ true → KeepsRules (domain_of_instance L s i)
 keeps_rules L s i plans fits lives =
     let x = live_there s i lives in
     let f = fits.instances i x.0 x.1 in
     let load' : instance_load s i ≡ x.0.load = ap load_of_instance x.1 in
     let row' = load_there L (instance_load s i) (rw load' f.some) (rw load' f.within) in
-    plans.keeps.rules (instance_load s i) row'.0 row'.1
+    (domain_at L plans (instance_load s i) row'.0 row'.1).is.keeps
 
 -- A code frame that acts by something else than a trap stands at an instruction that would do so.
-pub record CodeDoes (L : Load) (s : State) (f : StackFrame) (at fuel : ℕ) (regs : Registers) (act : Action) (rest : ℕ) (frame : StackFrame) : Type 0 where
+pub record CodeDoes (L : LoadRows) (s : State) (f : StackFrame) (at fuel : ℕ) (regs : Registers) (act : Action) (rest : ℕ) (frame : StackFrame) : Type 0 where
   pub at_rest : Settles L s f at fuel regs act rest frame
   pub fits : FitsStand (types_of L s) (domain_of_instance L s f.instance) at_rest.stand
   pub parted : Parted f.lent (kinds_at (domain_of_instance L s f.instance) at_rest.stand.at) at_rest.stand.regs
@@ -89,7 +95,7 @@ pub record CodeDoes (L : Load) (s : State) (f : StackFrame) (at fuel : ℕ) (reg
 abbrev pub NotTrap : Action → Type 0
 NotTrap act = (c : Cause) → act ≡ action.Trap c → ⊥
 
-module _ (L : Load) (s : State) (plans : Plans L) (tables : HasTables L.tables) (laid : Laid L s) (fits : Fitting L s) (t : ℕ) (act : Action) (rest : ℕ) (frame : StackFrame) (doing : ActsAs L s t act rest frame) where
+module _ (L : LoadRows) (s : State) (plans : Plans L) (tables : HasTables L.tables) (laid : Laid L s) (fits : Fitting L s) (t : ℕ) (act : Action) (rest : ℕ) (frame : StackFrame) (doing : ActsAs L s t act rest frame) where
   pub body_fits : BodyFits L s doing.f [] doing.f.body
   body_fits =
       let split = top_splits (stack s t) doing.f doing.on_top in

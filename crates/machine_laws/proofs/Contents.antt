@@ -2,16 +2,17 @@
 use Rattle.std.proofs.Common.{◌≡◌, ℕ, ◌<◌, ◌≤◌, ◌==◌, true, cond, ◌&&◌, List, [], ◌∷◌, Option, Some, None, refl, ap, sym, ◌∙◌, subst, arith, inl, inr, slice_get, slice_set}
 use Rattle.std.proofs.lemmas.Bool.{cases_eq, cases_Bool, eqb-true, eq-eqb, ne_eqb, and_parts, and_from, both_ways}
 use Rattle.std.proofs.lemmas.Option.{slice_get_within}
-use Rattle.rl_defs.specs.declared.values.Owner.TheVariants as owner
-use Rattle.rl_defs.specs.declared.entry.Entry.{Entry}
-use Rattle.rl_defs.specs.declared.entry.Entry.TheVariants as entry
-use Rattle.rl_defs.specs.declared.load.Load.{Load}
+use Rattle.machine_defs.specs.declared.values.Owner.TheVariants as owner
+use Rattle.machine_defs.specs.declared.entry.Entry.{Entry}
+use Rattle.machine_defs.specs.declared.entry.Entry.TheVariants as entry
+use Rattle.rl_defs.specs.declared.load.LoadRows.{LoadRows}
 use Rattle.rl_defs.specs.Words.{same_bytes}
 use Rattle.rl_defs.specs.Domains.{load_of_target, slots_of}
-use Rattle.rl_defs.specs.Machine.Seen.{domain_of_load, content, slots}
-use Rattle.rl_defs.specs.Machine.Steps.{Turn}
-use Rattle.rl_defs.specs.Machine.History.{word_behind, word_at, slot_behind, slot_at}
-use Rattle.rl_defs.specs.Machine.Untouched.{ActsItself, UntouchedEntry}
+use Rattle.rl_defs.specs.Rows.{domain_of_load}
+use Rattle.machine_defs.specs.Seen.{slots}
+use Rattle.machine_defs.specs.Steps.{Turn}
+use Rattle.machine_defs.specs.History.{word_after, word_at, slot_after, slot_at}
+use Rattle.machine_defs.specs.Untouched.{ActsItself, Untouched}
 use Rattle.rl_defs.proofs.Places.{get_set_other, get_set_same}
 use Rattle.machine_laws.specs.Ledger.{LedgerFrame, Ledger, at}
 use Rattle.machine_laws.specs.LedgerRows.{Runs, IsSlot, Row}
@@ -21,6 +22,7 @@ use Rattle.machine_laws.proofs.CallRows.{turn}
 use Rattle.machine_laws.proofs.HeapRows.{HeapAgrees, acts_for}
 use Rattle.machine_laws.proofs.ShownCalls.{actor_live}
 use Rattle.machine_laws.proofs.Rows.{at_same, at_other}
+use Rattle.machine_laws.proofs.Parts.{content}
 
 pub same_list : (xs ys : List ℕ) → same_bytes xs ys ≡ true → xs ≡ ys
 same_list [] [] e = refl
@@ -37,17 +39,17 @@ same_as_itself [] = refl
 same_as_itself (x ∷ xs) = and_from (x == x) (same_bytes xs xs) (eq-eqb x x refl) (same_as_itself xs)
 
 -- the history tells each word, and what is in each slot by the slot's name
-pub record ContentsAgreeIn (L : Load) (us : List Turn) (loads : ℕ → ℕ) (words : ℕ → ℕ → ℕ) (slots : ℕ → List (Option ℕ)) (next_instance : ℕ) : Type 0 where
+pub record ContentsAgreeIn (L : LoadRows) (us : List Turn) (loads : ℕ → ℕ) (words : ℕ → ℕ → ℕ) (slots : ℕ → List (Option ℕ)) (next_instance : ℕ) : Type 0 where
   pub words_told : (i k : ℕ) → i < next_instance → word_at us i k ≡ words i k
   pub slots_told : (i k : ℕ) (name : List ℕ) → i < next_instance → slice_get (slots_of (domain_of_load L (loads i)).lines) k ≡ Some name → slot_at us i name ≡ content (slice_get (slots i) k)
   pub no_words : (i k : ℕ) → next_instance ≤ i → word_at us i k ≡ 0
   pub no_slots : (i : ℕ) (name : List ℕ) → next_instance ≤ i → slot_at us i name ≡ None
 
-abbrev pub ContentsAgree : Load → List Turn → Ledger → Type 0
+abbrev pub ContentsAgree : LoadRows → List Turn → Ledger → Type 0
 ContentsAgree L us s = ContentsAgreeIn L us s.loads s.words s.slots s.next_instance
 
-module _ (L : Load) (plan : IsPlan L) (us : List Turn) (s : Ledger) (own : Owned L s) (p : Placed L s) (x : ContentsAgree L us s) (frees : List ℕ) where
-  told_still : (e : Entry) → ((i k n : ℕ) → word_behind i k e n ≡ n) → ((i : ℕ) (name : List ℕ) (o : Option ℕ) → slot_behind i name e o ≡ o) → ContentsAgree L (turn e frees ∷ us) s
+module _ (L : LoadRows) (plan : IsPlan L) (us : List Turn) (s : Ledger) (own : Owned L s) (p : Placed L s) (x : ContentsAgree L us s) (frees : List ℕ) where
+  told_still : (e : Entry) → ((i k n : ℕ) → word_after i k e n ≡ n) → ((i : ℕ) (name : List ℕ) (o : Option ℕ) → slot_after i name e o ≡ o) → ContentsAgree L (turn e frees ∷ us) s
   told_still e w q = record {
     words_told = λ i k lt. w i k (word_at us i k) ∙ x.words_told i k lt;
     slots_told = λ i k name lt is_name. q i name (slot_at us i name) ∙ x.slots_told i k name lt is_name;
@@ -57,7 +59,7 @@ module _ (L : Load) (plan : IsPlan L) (us : List Turn) (s : Ledger) (own : Owned
 
   -- one slot's content changes
   slot_told : (e : Entry) (i k : ℕ) (name : List ℕ) (a b : Option ℕ) → i < s.next_instance → IsSlot L s i k name → slice_get (s.slots i) k ≡ Some a
-      → ((j m n : ℕ) → word_behind j m e n ≡ n) → ((j : ℕ) (other : List ℕ) (o : Option ℕ) → slot_behind j other e o ≡ cond ((i == j) && same_bytes name other) b o)
+      → ((j m n : ℕ) → word_after j m e n ≡ n) → ((j : ℕ) (other : List ℕ) (o : Option ℕ) → slot_after j other e o ≡ cond ((i == j) && same_bytes name other) b o)
       → ContentsAgreeIn L (turn e frees ∷ us) s.loads s.words (at i (slice_set (s.slots i) k b) s.slots) s.next_instance
   slot_told e i k name a b opened is_name full w q = record {
     words_told = λ j m lt. w j m (word_at us j m) ∙ x.words_told j m lt;
@@ -101,11 +103,11 @@ module _ (L : Load) (plan : IsPlan L) (us : List Turn) (s : Ledger) (own : Owned
       let slots = r.7 in
       subst (ContentsAgree L (turn (entry.Reload t y i left) frees ∷ us)) (sym r.9) (record {
         words_told = λ j k lt. elim (cases_eq j i) [
-          | inl is ↦ rw (is, at_same i (λ (k : ℕ). 0) s.words) (x.no_words i k (omega arith))
+          | inl is ↦ subst (λ q. word_at (turn (entry.Reload t y i left) frees ∷ us) q k ≡ at i (λ (k : ℕ). 0) s.words q k) (sym is) (rw (at_same i (λ (k : ℕ). 0) s.words) (x.no_words i k (omega arith)))
           | inr other ↦ rw (at_other i (λ (k : ℕ). 0) s.words j other) (x.words_told j k (omega arith))
         ];
         slots_told = λ j k name lt is_name. elim (cases_eq j i) [
-          | inl is ↦ rw (is, at_same i slots s.slots) (x.no_slots i name (omega arith) ∙ sym (empty slots k (λ o. r.8 k o) (slice_get slots k) refl))
+          | inl is ↦ subst (λ q. slot_at (turn (entry.Reload t y i left) frees ∷ us) q name ≡ content (slice_get (at i slots s.slots q) k)) (sym is) (rw (at_same i slots s.slots) (x.no_slots i name (omega arith) ∙ sym (empty slots k (λ o. r.8 k o) (slice_get slots k) refl)))
           | inr other ↦ rw (at_other i slots s.slots j other) (x.slots_told j k name (omega arith) (rw (at_other i (load_of_target L y) s.loads j other) at is_name))
         ];
         no_words = λ j k le. x.no_words j k (omega arith);
@@ -119,10 +121,10 @@ module _ (L : Load) (plan : IsPlan L) (us : List Turn) (s : Ledger) (own : Owned
   contents_row (entry.Set t o place values) z r = subst (ContentsAgree L (turn (entry.Set t o place values) frees ∷ us)) (sym r.6) (told_still (entry.Set t o place values) (λ i k n. refl) (λ i k o. refl))
   contents_row (entry.Wput t i place value) z r = subst (ContentsAgree L (turn (entry.Wput t i place value) frees ∷ us)) (sym r.6) (record {
     words_told = λ j k lt. elim (cases_eq j i) [
-      | inl is ↦ rw (is, eq-eqb i i refl) (elim (cases_eq k place) [
-        | inl same ↦ rw (same, eq-eqb place place refl) refl
+      | inl is ↦ subst (λ q. word_at (turn (entry.Wput t i place value) frees ∷ us) q k ≡ at i (at place value (s.words i)) s.words q k) (sym is) (rw (eq-eqb i i refl) (elim (cases_eq k place) [
+        | inl same ↦ rw (eq-eqb place k (sym same), eq-eqb k place same) refl
         | inr apart ↦ rw (ne_eqb place k (λ e. apart (sym e)), at_other place value (s.words i) k apart) (x.words_told i k (opened t r.0 r.1 i r.3 r.4))
-      ])
+      ]))
       | inr ne ↦ rw (ne_eqb i j (λ e. ne (sym e)), at_other i (at place value (s.words i)) s.words j ne) (x.words_told j k lt)
     ];
     slots_told = x.slots_told;
@@ -140,14 +142,14 @@ module _ (L : Load) (plan : IsPlan L) (us : List Turn) (s : Ledger) (own : Owned
   contents_row (entry.Done t) z r = subst (ContentsAgree L (turn (entry.Done t) frees ∷ us)) (sym r.2) (told_still (entry.Done t) (λ i k n. refl) (λ i k o. refl))
   contents_row (entry.Free o) z r = absurd r
 
-module _ (L : Load) (us : List Turn) (s : Ledger) (own : Owned L s) (c : CallsAgree L us s) (p : Placed L s) (h : HeapAgrees us s) (x : ContentsAgree L us s) where
+module _ (L : LoadRows) (us : List Turn) (s : Ledger) (own : Owned L s) (c : CallsAgree L us s) (p : Placed L s) (h : HeapAgrees us s) (x : ContentsAgree L us s) where
   acts_itself : (t : ℕ) (f : LedgerFrame) (fs : List LedgerFrame) (i : ℕ) → Runs L s t f fs → f.party ≡ owner.Instance i → ActsItself us t i
   acts_itself t f fs i runs is = record { itself = acts_for L us s own c p h t f fs runs ∙ is; lives = actor_live L us s own c p h t f fs i runs is }
 
   slot_shows : (t : ℕ) (f : LedgerFrame) (fs : List LedgerFrame) (i k : ℕ) (name : List ℕ) (a : Option ℕ) → Runs L s t f fs → f.party ≡ owner.Instance i → IsSlot L s i k name → slice_get (s.slots i) k ≡ Some a → slot_at us i name ≡ a
   slot_shows t f fs i k name a runs is is_name full = x.slots_told i k name (party_opened L s.loads s.next_instance s.next_call t f fs i (ground L s p t f fs runs.some runs.within runs.stack) is).1 is_name ∙ ap content full
 
-  pub untouched : (e : Entry) (z : Ledger) → Row L s e z → UntouchedEntry us e
+  pub untouched : (e : Entry) (z : Ledger) → Row L s e z → Untouched us e
   untouched (entry.Wput t i place value) z r = acts_itself t r.0 r.1 i r.3 r.4
   untouched (entry.Put t i slot o) z r = (acts_itself t r.1 r.2 i r.4 r.5, slot_shows t r.1 r.2 i r.0 slot None r.4 r.5 r.6 r.7)
   untouched (entry.Take t i slot o) z r = (acts_itself t r.1 r.2 i r.4 r.5, slot_shows t r.1 r.2 i r.0 slot (Some o) r.4 r.5 r.6 r.7)

@@ -1,14 +1,15 @@
 -- Each call is opened at most once, and in a whole run each is closed as often as it is opened.
 use Rattle.std.proofs.Common.{◌≡◌, ℕ, suc, ◌+◌, ◌<◌, ◌≤◌, ◌==◌, Bool, true, false, cond, List, [], ◌∷◌, refl, sym, subst, arith, inl, inr, length}
 use Rattle.std.proofs.lemmas.Bool.{cases_eq, eq-eqb, ne_eqb, both_ways}
-use Rattle.rl_defs.specs.declared.values.Owner.TheVariants as owner
-use Rattle.rl_defs.specs.declared.entry.Entry.{Entry}
-use Rattle.rl_defs.specs.declared.entry.Entry.TheVariants as entry
-use Rattle.rl_defs.specs.declared.load.Load.{Load}
-use Rattle.rl_defs.specs.Texts.{thread_of}
-use Rattle.rl_defs.specs.Machine.Steps.{Turn}
-use Rattle.rl_defs.specs.Machine.History.{OpenCall, sum_to}
-use Rattle.rl_defs.specs.Machine.Answered.{opens_call, closes_call, times_opened, times_closed}
+use Rattle.machine_defs.specs.declared.values.Owner.TheVariants as owner
+use Rattle.machine_defs.specs.declared.entry.Entry.{Entry}
+use Rattle.machine_defs.specs.declared.entry.Entry.TheVariants as entry
+use Rattle.rl_defs.specs.declared.load.LoadRows.{LoadRows}
+use Rattle.machine_defs.specs.Entries.{thread_of}
+use Rattle.machine_defs.specs.Steps.{Turn}
+use Rattle.machine_defs.specs.History.{times, OpenCall}
+use Rattle.machine_laws.specs.Ledger.{sum_to}
+use Rattle.machine_defs.specs.Answered.{opens_call, closes_call}
 use Rattle.machine_laws.specs.Ledger.{LedgerFrame, Ledger, at}
 use Rattle.machine_laws.specs.LedgerRows.{Runs, callee, Row}
 use Rattle.machine_laws.specs.LedgerSound.{Placed}
@@ -18,22 +19,28 @@ use Rattle.machine_laws.proofs.Calls.{calls_of, calls_of_own}
 use Rattle.machine_laws.proofs.CallRows.{turn}
 use Rattle.machine_laws.proofs.OwnerRows.{sum_none}
 
+abbrev pub times_opened : ℕ → List Turn → ℕ
+times_opened c us = times (opens_call c) us
+
+abbrev pub times_closed : ℕ → List Turn → ℕ
+times_closed c us = times (closes_call c) us
+
 -- how often a call is among the open ones
 abbrev pub times_open : ℕ → List OpenCall → ℕ
 times_open c [] = 0
 times_open c (o ∷ os) = cond (o.call == c) 1 0 + times_open c os
 
-pub record CountedIn (L : Load) (us : List Turn) (stack : ℕ → List LedgerFrame) (done : ℕ → Bool) (next_call : ℕ) : Type 0 where
+pub record CountedIn (L : LoadRows) (us : List Turn) (stack : ℕ → List LedgerFrame) (done : ℕ → Bool) (next_call : ℕ) : Type 0 where
   pub even : (c : ℕ) → times_opened c us ≡ times_closed c us + sum_to (λ t. times_open c (calls_of (stack t))) (length L.clients)
   pub later : (c : ℕ) → next_call ≤ c → times_opened c us ≡ 0
   pub at_most : (c : ℕ) → times_opened c us ≤ 1
   -- a client that is done has its own frame alone
   pub emptied : (t : ℕ) → done t ≡ true → (f : LedgerFrame) × (stack t ≡ f ∷ [])
 
-abbrev pub Counted : Load → List Turn → Ledger → Type 0
+abbrev pub Counted : LoadRows → List Turn → Ledger → Type 0
 Counted L us s = CountedIn L us s.stack s.done s.next_call
 
-module _ (L : Load) (us : List Turn) (s : Ledger) (p : Placed L s) (x : Counted L us s) (frees : List ℕ) where
+module _ (L : LoadRows) (us : List Turn) (s : Ledger) (p : Placed L s) (x : Counted L us s) (frees : List ℕ) where
   -- an entry that opens no call
   changed : (e : Entry) (new : List LedgerFrame) (nc : ℕ) → 0 < thread_of e → thread_of e ≤ length L.clients → s.done (thread_of e) ≡ false → s.next_call ≤ nc → ((c : ℕ) → opens_call c e ≡ 0) → ((c : ℕ) → closes_call c e + times_open c (calls_of new) ≡ times_open c (calls_of (s.stack (thread_of e))))
       → CountedIn L (turn e frees ∷ us) (at (thread_of e) new s.stack) s.done nc
@@ -123,7 +130,7 @@ module _ (L : Load) (us : List Turn) (s : Ledger) (p : Placed L s) (x : Counted 
   counted_row (entry.Free o) z r = absurd r
 
 -- where every client is done, each call that was opened was closed, once
-pub closed_once : (L : Load) (us : List Turn) (s : Ledger) → Counted L us s → ((t : ℕ) → 0 < t → t ≤ length L.clients → s.done t ≡ true) → (c : ℕ) → (times_closed c us ≡ times_opened c us) × (times_closed c us ≤ 1)
+pub closed_once : (L : LoadRows) (us : List Turn) (s : Ledger) → Counted L us s → ((t : ℕ) → 0 < t → t ≤ length L.clients → s.done t ≡ true) → (c : ℕ) → (times_closed c us ≡ times_opened c us) × (times_closed c us ≤ 1)
 closed_once L us s x all_done c =
     let none = sum_none (λ t. times_open c (calls_of (s.stack t))) (length L.clients) (λ t pos le. let w = x.emptied t (all_done t pos le) in let e = w.1 in rw e refl) in
     let a = x.even c in

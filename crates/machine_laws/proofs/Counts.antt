@@ -1,8 +1,8 @@
 -- How often objects stand in lists.
 use Rattle.std.proofs.Common.{◌≡◌, ℕ, ◌<◌, ◌==◌, true, false, cond, List, [], ◌∷◌, refl, sym, arith, inl, inr}
 use Rattle.std.proofs.lemmas.Bool.{cases_Bool, eq-eqb, ne_eqb}
-use Rattle.rl_defs.specs.Loans.{count}
-use Rattle.rl_defs.specs.Crossing.{has}
+use Rattle.machine_defs.specs.Loans.{count}
+use Rattle.machine_defs.specs.Arguments.{has}
 use Rattle.machine_laws.specs.LedgerRows.{Exchanged}
 
 pub one_here : (o : ℕ) → count o (o ∷ []) ≡ 1

@@ -1,19 +1,18 @@
--- The device keeps its blocks behind each row, each of 64 words.
+-- The device keeps its blocks after each row, each of 64 words.
 use Rattle.std.proofs.Common.{◌≡◌, ℕ, zero, suc, ◌⊎◌, inl, inr, true, List, [], ◌∷◌, Option, Some, None, slice_get, slice_set, refl, ap, sym, subst, ◌∙◌}
 use Rattle.std.proofs.lemmas.List.{length-set}
 use Rattle.rl_defs.specs.declared.tables.Width.TheVariants as width
-use Rattle.rl_defs.specs.declared.entry.Entry.{Entry}
-use Rattle.rl_defs.specs.declared.entry.Entry.TheVariants as entry
-use Rattle.rl_defs.specs.declared.load.Load.{Load}
+use Rattle.machine_defs.specs.declared.entry.Entry.{Entry}
+use Rattle.machine_defs.specs.declared.entry.Entry.TheVariants as entry
+use Rattle.rl_defs.specs.declared.load.LoadRows.{LoadRows}
 use Rattle.rl_defs.specs.CodeNames.{cells_of}
 use Rattle.rl_defs.specs.NativeShapes.{has_cells}
-use Rattle.rl_defs.specs.State.{State, Object}
-use Rattle.rl_defs.specs.Loans.{object_of, sweep}
-use Rattle.rl_defs.specs.Machine.Objects.{kinds_of, cells_in}
-use Rattle.rl_defs.specs.Machine.Steps.{Row}
+use Rattle.machine_defs.specs.State.{State, Object}
+use Rattle.machine_defs.specs.Loans.{object_of, sweep}
+use Rattle.machine_defs.specs.Objects.{kinds_of, cells_in}
+use Rattle.machine_defs.specs.Steps.{Row}
 use Rattle.machine_laws.specs.Shape.{Laid}
-use Rattle.machine_laws.specs.Plans.{Plans}
-use Rattle.machine_laws.specs.Registers.{HasTables}
+use Rattle.machine_laws.specs.Plans.{Plans, HasTables}
 use Rattle.machine_laws.specs.Fitting.{BlockFits, DeviceFits, Fitting}
 use Rattle.machine_laws.proofs.Moves.{IsSave, Moves, row_moves}
 use Rattle.machine_laws.proofs.CellsFit.{cells_block}
@@ -22,7 +21,7 @@ use Rattle.machine_laws.proofs.ObjectsKept.{does_fit}
 abbrev BlocksStay : State → State → Type 0
 BlocksStay s z = z.blocks ≡ s.blocks
 
-block_moves : (L : Load) (e : Entry) → (IsSave e → ⊥) → Moves L e BlocksStay
+block_moves : (L : LoadRows) (e : Entry) → (IsSave e → ⊥) → Moves L e BlocksStay
 block_moves L e saves = record {
   still = λ s. refl;
   behind = λ s m z a b. b ∙ a;
@@ -51,7 +50,7 @@ set_block (x ∷ blocks) zero (suc j) new cells is = inr is
 set_block (x ∷ blocks) (suc b) zero new cells is = inr is
 set_block (x ∷ blocks) (suc b) (suc j) new cells is = set_block blocks b j new cells is
 
-module _ (L : Load) (s : State) (plans : Plans L) (tables : HasTables L.tables) (laid : Laid L s) (fits : Fitting L s) where
+module _ (L : LoadRows) (s : State) (plans : Plans L) (tables : HasTables L.tables) (laid : Laid L s) (fits : Fitting L s) where
   -- the cells of an object that holds a block
   held_block : (o : ℕ) → has_cells 64 width.W64 (kinds_of L (object_of s o)) ≡ true → BlockFits (cells_in (object_of s o))
   held_block o holds = go (object_of s o) refl holds
@@ -73,5 +72,5 @@ module _ (L : Load) (s : State) (plans : Plans L) (tables : HasTables L.tables) 
       })
   device_row made e makes = subst (DeviceFits L) (sym (row_moves L BlocksStay e (block_moves L e (λ saves. saves)) s made makes)) fits.device
 
-pub device_fit : (L : Load) (s : State) (e : Entry) (made : State) → Plans L → HasTables L.tables → Laid L s → Fitting L s → Row L s e made → DeviceFits L (sweep made).blocks
+pub device_fit : (L : LoadRows) (s : State) (e : Entry) (made : State) → Plans L → HasTables L.tables → Laid L s → Fitting L s → Row L s e made → DeviceFits L (sweep made).blocks
 device_fit L s e made plans tables laid fits makes = device_row L s plans tables laid fits made e makes

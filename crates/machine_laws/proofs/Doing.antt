@@ -1,39 +1,43 @@
--- What a frame has of its own behind an action that it is answered at once.
+-- What a frame has of its own after an action that it is answered at once.
 use Rattle.std.proofs.Common.{◌≡◌, ℕ, ◌<◌, true, ◌⊎◌, List, Some, refl, ap, subst, ◌∙◌, arith, inl, inr}
-use Rattle.rl_defs.specs.declared.frame.Action.{Action}
-use Rattle.rl_defs.specs.declared.frame.Action.TheVariants as action
-use Rattle.rl_defs.specs.declared.frame.Answer.{Answer}
-use Rattle.rl_defs.specs.declared.frame.FrameBody.TheVariants as body
-use Rattle.rl_defs.specs.declared.load.Load.{Load}
+use Rattle.machine_defs.specs.declared.frame.Action.{Action}
+use Rattle.machine_defs.specs.declared.frame.Action.TheVariants as action
+use Rattle.machine_defs.specs.declared.frame.Answer.{Answer}
+use Rattle.machine_defs.specs.declared.frame.FrameBody.TheVariants as body
+use Rattle.rl_defs.specs.declared.load.LoadRows.{LoadRows}
 use Rattle.rl_defs.specs.DomainValue.{Domain}
 use Rattle.rl_defs.specs.Domains.{method_of}
 use Rattle.rl_defs.specs.CodeNames.{method_at, method_of_function}
 use Rattle.rl_defs.specs.CodeKinds.{kinds_at}
-use Rattle.rl_defs.specs.CodeFits.{Typing, FitsStand, FitsAnswer, after_answer}
-use Rattle.rl_defs.specs.Instructions.{Stand, Registers}
-use Rattle.rl_defs.specs.State.{State, StackFrame, is_live}
-use Rattle.rl_defs.specs.Loans.{count}
-use Rattle.rl_defs.specs.Wanted.{instance_load}
-use Rattle.rl_defs.specs.Crossing.{has}
-use Rattle.rl_defs.specs.Machine.Seen.{domain_of_load, domain_of_instance}
-use Rattle.rl_defs.specs.Machine.NativeFits.{types_of}
-use Rattle.rl_defs.specs.Machine.Frames.{Answers, AnswersBody, with_body, instr_at, answered_code, stand_after, code_at}
+use Rattle.rl_defs.specs.Registers.{Typing}
+use Rattle.machine_defs.specs.CodeFits.{FitsStand, FitsAnswer}
+use Rattle.machine_defs.specs.Instructions.{after_answer}
+use Rattle.rl_defs.specs.Registers.{Stand, Registers}
+use Rattle.machine_defs.specs.State.{State, StackFrame, is_live}
+use Rattle.machine_defs.specs.Loans.{count}
+use Rattle.machine_defs.specs.State.{instance_load}
+use Rattle.machine_defs.specs.Arguments.{has}
+use Rattle.rl_defs.specs.Rows.{domain_of_load}
+use Rattle.machine_defs.specs.Seen.{domain_of_instance}
+use Rattle.machine_defs.specs.Seen.{types_of}
+use Rattle.machine_defs.specs.Frames.{Answers, AnswersBody, with_body, instr_at, answered_code, code_at}
 use Rattle.machine_laws.specs.LedgerRows.{Exchanged}
-use Rattle.machine_laws.specs.Plans.{Plans}
-use Rattle.machine_laws.specs.Registers.{Parted, HasTables, Retyped, own, given_away, used, shown, received}
+use Rattle.machine_laws.specs.Plans.{Plans, HasTables}
+use Rattle.machine_laws.specs.Registers.{Parted, Retyped, own, given_away, used, shown, received}
 use Rattle.machine_laws.specs.Fitting.{Fitting}
 use Rattle.machine_laws.proofs.OwnEntries.{stand_retyped}
 use Rattle.machine_laws.proofs.OwnActs.{Pays, PaysAct, waiting}
 use Rattle.machine_laws.proofs.OwnAnswers.{Unlent, GainsOwn, answer_gains}
 use Rattle.machine_laws.proofs.OwnFunctions.{instr_here, answer_function}
 use Rattle.machine_laws.proofs.CodeDoing.{NotTrap, CodeDoes, has_tables, keeps_rules}
+use Rattle.machine_laws.proofs.Parts.{stand_after}
 
 pub pays_of : (lent : List ℕ) (old new : Registers) (act : Action) → NotTrap act → PaysAct lent old new act → Pays lent old new act
 pays_of lent old new (action.Trap c) no_trap pays = absurd (no_trap c refl)
 pays_of lent old new other no_trap pays = pays
 
--- Code behind an answer: where it stands, and what it has.
-pub record CodeAfter (types : Typing) (L : Load) (d : Domain) (f after : StackFrame) (act : Action) (a : Answer) (regs : Registers) : Type 0 where
+-- Code after an answer: where it stands, and what it has.
+pub record CodeAfter (types : Typing) (L : LoadRows) (d : Domain) (f after : StackFrame) (act : Action) (a : Answer) (regs : Registers) : Type 0 where
   pub stand : Stand
   pub after_is : after ≡ with_body f (body.Code stand.at stand.regs)
   pub fits : FitsStand types d stand
@@ -44,7 +48,7 @@ pub record CodeAfter (types : Typing) (L : Load) (d : Domain) (f after : StackFr
   pub keeps : (p : ℕ) → 0 < count p (used act) → 0 < count p (own f.lent stand.regs)
   pub shows : (p : ℕ) → 0 < count p (shown act) → (0 < count p (own f.lent regs)) ⊎ (has f.lent p ≡ true)
 
-module _ (L : Load) (s z : State) (plans : Plans L) (tables : HasTables L.tables) (fits : Fitting L s) (f after frame : StackFrame) (act : Action) (a : Answer) (at fuel rest : ℕ) (regs : Registers) (lives : is_live s f.instance ≡ true)
+module _ (L : LoadRows) (s z : State) (plans : Plans L) (tables : HasTables L.tables) (fits : Fitting L s) (f after frame : StackFrame) (act : Action) (a : Answer) (at fuel rest : ℕ) (regs : Registers) (lives : is_live s f.instance ≡ true)
     (no_trap : NotTrap act) (c : CodeDoes L s f at fuel regs act rest frame) (load' : instance_load z f.instance ≡ instance_load s f.instance) (types : Typing) (re : Retyped (types_of L s) types c.at_rest.stand.regs)
     (answers : FitsAnswer types (domain_of_instance L s f.instance) (kinds_at (domain_of_instance L s f.instance) c.at_rest.stand.at) c.instr a) (unlent : Unlent f.lent (received a)) (gets : Answers L z frame a after) where
   abbrev d : Domain

@@ -1,33 +1,38 @@
--- A frame that did something fits behind it, and so does its stack.
+-- A frame that did something fits after it, and so does its stack.
 use Rattle.std.proofs.Common.{◌≡◌, ◌≢◌, ℕ, ◌-◌, ◌<◌, ◌≤◌, true, false, List, [], ◌∷◌, ◌++◌, length, slice_set, refl, ap, sym, subst, ◌∙◌}
 use Rattle.std.proofs.lemmas.Bool.{or_left}
-use Rattle.rl_defs.specs.declared.entry.Entry.{Entry}
-use Rattle.rl_defs.specs.declared.frame.Action.{Action}
-use Rattle.rl_defs.specs.declared.frame.Action.TheVariants as action
-use Rattle.rl_defs.specs.declared.frame.Answer.{Answer}
-use Rattle.rl_defs.specs.declared.frame.FrameBody.{FrameBody}
-use Rattle.rl_defs.specs.declared.frame.FrameBody.TheVariants as body
-use Rattle.rl_defs.specs.declared.load.Load.{Load}
+use Rattle.machine_defs.specs.declared.entry.Entry.{Entry}
+use Rattle.machine_defs.specs.declared.frame.Action.{Action}
+use Rattle.machine_defs.specs.declared.frame.Action.TheVariants as action
+use Rattle.machine_defs.specs.declared.frame.Answer.{Answer}
+use Rattle.machine_defs.specs.declared.frame.FrameBody.{FrameBody}
+use Rattle.machine_defs.specs.declared.frame.FrameBody.TheVariants as body
+use Rattle.rl_defs.specs.declared.load.LoadRows.{LoadRows}
 use Rattle.rl_defs.specs.DomainValue.{Domain}
 use Rattle.rl_defs.specs.Domains.{method_of, is_native}
 use Rattle.rl_defs.specs.CodeNames.{method_at}
 use Rattle.rl_defs.specs.CodeKinds.{kinds_at}
-use Rattle.rl_defs.specs.CodeFits.{Typing, FitsStand}
-use Rattle.rl_defs.specs.Instructions.{Registers}
-use Rattle.rl_defs.specs.State.{State, StackFrame, row, is_live, stack, frames_of}
-use Rattle.rl_defs.specs.Loans.{sweep as sweep_state}
-use Rattle.rl_defs.specs.Crossing.{has, is_undone}
-use Rattle.rl_defs.specs.Wanted.{instance_load}
-use Rattle.rl_defs.specs.Machine.Seen.{domain_of_load, domain_of_instance}
-use Rattle.rl_defs.specs.Machine.NativeFits.{types_of, CanChoose}
-use Rattle.rl_defs.specs.Machine.Frames.{below_top, with_body, held_after, AnswersBody}
-use Rattle.rl_defs.specs.Machine.ObjectRows.{Does}
-use Rattle.rl_defs.specs.Machine.Steps.{Row as RowOf}
+use Rattle.rl_defs.specs.Registers.{Typing}
+use Rattle.machine_defs.specs.CodeFits.{FitsStand}
+use Rattle.rl_defs.specs.Registers.{Registers}
+use Rattle.machine_defs.specs.State.{State, StackFrame, is_live, stack, frames_of}
+use Rattle.rl_defs.specs.Rows.{row}
+use Rattle.machine_defs.specs.Loans.{sweep as sweep_state}
+use Rattle.machine_defs.specs.Arguments.{has}
+use Rattle.machine_defs.specs.Calling.{is_undone}
+use Rattle.machine_defs.specs.State.{instance_load}
+use Rattle.rl_defs.specs.Rows.{domain_of_load}
+use Rattle.machine_defs.specs.Seen.{domain_of_instance}
+use Rattle.machine_defs.specs.NativeFits.{CanChoose}
+use Rattle.machine_defs.specs.Seen.{types_of}
+use Rattle.machine_defs.specs.Frames.{below_top, with_body, held_after, AnswersBody}
+use Rattle.machine_defs.specs.ObjectRows.{Does}
+use Rattle.machine_defs.specs.Steps.{Row as RowOf}
 use Rattle.machine_laws.specs.LedgerOf.{ledger_of}
 use Rattle.machine_laws.specs.LedgerSound.{Owned, Placed}
 use Rattle.machine_laws.specs.Shape.{Laid}
-use Rattle.machine_laws.specs.Plans.{Plans}
-use Rattle.machine_laws.specs.Registers.{Parted, HasTables, Retyped, received}
+use Rattle.machine_laws.specs.Plans.{Plans, HasTables}
+use Rattle.machine_laws.specs.Registers.{Parted, Retyped, received}
 use Rattle.machine_laws.specs.Fitting.{BodyFits, StackFits, Fitting}
 use Rattle.machine_laws.proofs.Rows.{row_set_same, row_set_other}
 use Rattle.machine_laws.proofs.Stacks.{top_splits}
@@ -45,14 +50,14 @@ use Rattle.machine_laws.proofs.OwnDoing.{IsDone, Answered, code_went, native_wen
 use Rattle.machine_laws.proofs.Agreeing.{laid_z, all_fit, changed_fits}
 
 -- the same choice, whatever the frame's body
-pub choice_moved : (L : Load) (s : State) (f : StackFrame) (b : FrameBody Action) (held : List ℕ) (act : Action) → CanChoose L s f held act → CanChoose L s (with_body f b) held act
+pub choice_moved : (L : LoadRows) (s : State) (f : StackFrame) (b : FrameBody Action) (held : List ℕ) (act : Action) → CanChoose L s f held act → CanChoose L s (with_body f b) held act
 choice_moved L s f b held (action.Wput k v) can = record { inside = can.inside; width = can.width }
 choice_moved L s f b held (action.Call x m args) can = record { import = can.import; bound = can.bound; method = can.method; row = can.row; suits = can.suits; moves = can.moves; lends = can.lends; once = can.once; apart = can.apart; room = can.room }
 choice_moved L s f b held (action.Ret results) can = record { method = can.method; row = can.row; suits = can.suits; all = can.all }
 choice_moved L s f b held other can = can
 
 -- A frame with new code on top of a stack of the new state fits there, where its registers fit a typing that agrees.
-pub code_on_top : (L : Load) (z : State) (t : ℕ) (below : List StackFrame) (f after : StackFrame) (types : Typing) (d : Domain) (at : ℕ) (regs : Registers) → Laid L z → Owned L (ledger_of L z) → after ≡ with_body f (body.Code at regs) → stack z t ≡ below ++ after ∷ [] → is_live z after.instance ≡ true
+pub code_on_top : (L : LoadRows) (z : State) (t : ℕ) (below : List StackFrame) (f after : StackFrame) (types : Typing) (d : Domain) (at : ℕ) (regs : Registers) → Laid L z → Owned L (ledger_of L z) → after ≡ with_body f (body.Code at regs) → stack z t ≡ below ++ after ∷ [] → is_live z after.instance ≡ true
     → domain_of_instance L z f.instance ≡ d → is_native d.lines ≡ false → FitsStand types d (record { at = at; regs = regs }) → Parted f.lent (kinds_at d at) regs → method_at d at ≡ method_of L f.target f.method
     → ((o : ℕ) → IsIn z o → (types_of L z).struct_of o ≡ types.struct_of o) → ((x : ℕ) → (types_of L z).trait_of x ≡ types.trait_of x) → BodyFits L z after [] after.body
 code_on_top L z t below f after types d at regs laid owned is here lives domain native fits parted method typed traits =
@@ -78,7 +83,7 @@ code_on_top L z t below f after types d at regs laid owned is here lives domain 
     }
 
 -- A frame with a new native body on top of a stack of the new state fits there, where what it wants fitted before the sweep.
-pub native_on_top : (L : Load) (made : State) (t : ℕ) (below : List StackFrame) (f after : StackFrame) (held : List ℕ) (next : Action) → Laid L made → Laid L (sweep_state made) → Owned L (ledger_of L (sweep_state made)) → after ≡ with_body f (body.Native held next) → stack made t ≡ below ++ after ∷ [] → is_live made after.instance ≡ true
+pub native_on_top : (L : LoadRows) (made : State) (t : ℕ) (below : List StackFrame) (f after : StackFrame) (held : List ℕ) (next : Action) → Laid L made → Laid L (sweep_state made) → Owned L (ledger_of L (sweep_state made)) → after ≡ with_body f (body.Native held next) → stack made t ≡ below ++ after ∷ [] → is_live made after.instance ≡ true
     → is_native (domain_of_instance L made f.instance).lines ≡ true → CanChoose L made f held next → BodyFits L (sweep_state made) after [] after.body
 native_on_top L made t below f after held next laid laid' owned is here lives native can =
     subst (λ (g : StackFrame). BodyFits L (sweep_state made) g [] g.body) (sym is) (
@@ -88,7 +93,7 @@ native_on_top L made t below f after held next laid laid' owned is here lives na
           refl refl can),
     )
 
-module _ (L : Load) (s : State) (e : Entry) (made : State) (plans : Plans L) (tables : HasTables L.tables) (laid : Laid L s) (owned : Owned L (ledger_of L s)) (placed : Placed L (ledger_of L s)) (fits : Fitting L s) (r : RowOf L s e made) (owned' : Owned L (ledger_of L (sweep_state made)))
+module _ (L : LoadRows) (s : State) (e : Entry) (made : State) (plans : Plans L) (tables : HasTables L.tables) (laid : Laid L s) (owned : Owned L (ledger_of L s)) (placed : Placed L (ledger_of L s)) (fits : Fitting L s) (r : RowOf L s e made) (owned' : Owned L (ledger_of L (sweep_state made)))
     (t : ℕ) (ready : is_undone (row s.threads t) ≡ true) where
   abbrev z : State
   z = sweep_state made

@@ -1,23 +1,23 @@
--- Stacks fit behind each thing that a frame does.
+-- Stacks fit after each thing that a frame does.
 use Rattle.std.proofs.Common.{◌≡◌, ◌≢◌, ℕ, true, List, Some, refl, ap, sym, ◌∙◌, arith, inl, inr}
 use Rattle.std.proofs.lemmas.Bool.{eq-eqb, ne_eqb}
-use Rattle.rl_defs.specs.declared.values.Owner.{Owner}
-use Rattle.rl_defs.specs.declared.entry.Entry.{Entry}
-use Rattle.rl_defs.specs.declared.entry.Entry.TheVariants as entry
-use Rattle.rl_defs.specs.declared.frame.Answer.TheVariants as answer
-use Rattle.rl_defs.specs.declared.load.Load.{Load}
-use Rattle.rl_defs.specs.State.{State, Object, row, stack, frames_of}
-use Rattle.rl_defs.specs.Loans.{object_of, sweep as sweep_state}
-use Rattle.rl_defs.specs.Crossing.{is_undone}
-use Rattle.rl_defs.specs.Wanted.{instance_load}
-use Rattle.rl_defs.specs.Machine.NativeFits.{types_of, struct_or_none}
-use Rattle.rl_defs.specs.Machine.ObjectRows.{Does, FrameMakes, Takes, Unhangs}
-use Rattle.rl_defs.specs.Machine.Steps.{Row as RowOf}
+use Rattle.machine_defs.specs.declared.values.Owner.{Owner}
+use Rattle.machine_defs.specs.declared.entry.Entry.{Entry}
+use Rattle.machine_defs.specs.declared.entry.Entry.TheVariants as entry
+use Rattle.machine_defs.specs.declared.frame.Answer.TheVariants as answer
+use Rattle.rl_defs.specs.declared.load.LoadRows.{LoadRows}
+use Rattle.machine_defs.specs.State.{State, Object, stack, frames_of}
+use Rattle.rl_defs.specs.Rows.{row}
+use Rattle.machine_defs.specs.Loans.{object_of, sweep as sweep_state}
+use Rattle.machine_defs.specs.Calling.{is_undone}
+use Rattle.machine_defs.specs.State.{instance_load}
+use Rattle.machine_defs.specs.Seen.{types_of}
+use Rattle.machine_defs.specs.ObjectRows.{Does, FrameMakes, Takes, Unhangs}
+use Rattle.machine_defs.specs.Steps.{Row as RowOf}
 use Rattle.machine_laws.specs.LedgerOf.{ledger_of}
 use Rattle.machine_laws.specs.LedgerSound.{Owned, Placed}
 use Rattle.machine_laws.specs.Shape.{Laid}
-use Rattle.machine_laws.specs.Plans.{Plans}
-use Rattle.machine_laws.specs.Registers.{HasTables}
+use Rattle.machine_laws.specs.Plans.{Plans, HasTables}
 use Rattle.machine_laws.specs.Fitting.{StackFits, Fitting}
 use Rattle.machine_laws.proofs.Seats.{IsIn}
 use Rattle.machine_laws.proofs.Types.{Unchanged, AnyHow, structs_same, stays_sweep}
@@ -30,8 +30,9 @@ use Rattle.machine_laws.proofs.LaidRows.{laid_row}
 use Rattle.machine_laws.proofs.StaysRows.{stays_swept, new_stays}
 use Rattle.machine_laws.proofs.Agreeing.{other_fits}
 use Rattle.machine_laws.proofs.DoingFits.{doing_fits}
+use Rattle.machine_laws.proofs.Parts.{struct_or_none}
 
-module _ (L : Load) (s : State) (e : Entry) (made : State) (plans : Plans L) (tables : HasTables L.tables) (laid : Laid L s) (owned : Owned L (ledger_of L s)) (placed : Placed L (ledger_of L s)) (fits : Fitting L s) (r : RowOf L s e made) (owned' : Owned L (ledger_of L (sweep_state made))) where
+module _ (L : LoadRows) (s : State) (e : Entry) (made : State) (plans : Plans L) (tables : HasTables L.tables) (laid : Laid L s) (owned : Owned L (ledger_of L s)) (placed : Placed L (ledger_of L s)) (fits : Fitting L s) (r : RowOf L s e made) (owned' : Owned L (ledger_of L (sweep_state made))) where
   abbrev z : State
   z = sweep_state made
 
@@ -46,7 +47,7 @@ module _ (L : Load) (s : State) (e : Entry) (made : State) (plans : Plans L) (ta
       other_fits L s e made laid owned placed r owned' u here (fits.bodies u)
 
   module _ (t : ℕ) (ready : is_undone (row s.threads t) ≡ true) where
-    -- behind an action that is answered by `Went`
+    -- after an action that is answered by `Went`
     pub went_fits : {i : ℕ} {act : _} {change : State → State} (d : Does L s t i act answer.Went change made) → IsDone act answer.Went → (IsNew e → ⊥) → ((m : State) → instance_load (change m) ≡ instance_load m) → ((m : State) → (change m).stacks ≡ m.stacks) → (u : ℕ) → StackFits L z (stack z u)
     went_fits {change = change} d done old loads stacks =
         let load' = loads_same L s made t plans tables laid owned fits ready change d loads in
@@ -62,8 +63,8 @@ module _ (L : Load) (s : State) (e : Entry) (made : State) (plans : Plans L) (ta
         doing_fits L s e made plans tables laid owned placed fits r owned' t ready h.does tt (unhang_load L s made t plans tables laid owned fits ready o k v h) (λ m. refl) (unhang_answer L s made t plans tables laid owned fits ready o k v h)
         (one_unlent (actor laid ready h.does).lent v (hung_unlent L s laid owned t (actor laid ready h.does) (Rattle.machine_laws.proofs.FrameRows.doing laid ready h.does).on_top v o k (unhang_seat L s made t plans tables laid owned fits ready o k v h))) (λ at regs is q there. types_kept old q there)
 
--- behind a `new` of a frame
-module _ (L : Load) (s : State) (t : ℕ) (w : Owner) (o ty : ℕ) (values : List ℕ) (made : State) (plans : Plans L) (tables : HasTables L.tables) (laid : Laid L s) (owned : Owned L (ledger_of L s)) (placed : Placed L (ledger_of L s)) (fits : Fitting L s) (r : RowOf L s (entry.New t w o ty values) made)
+-- after a `new` of a frame
+module _ (L : LoadRows) (s : State) (t : ℕ) (w : Owner) (o ty : ℕ) (values : List ℕ) (made : State) (plans : Plans L) (tables : HasTables L.tables) (laid : Laid L s) (owned : Owned L (ledger_of L s)) (placed : Placed L (ledger_of L s)) (fits : Fitting L s) (r : RowOf L s (entry.New t w o ty values) made)
     (owned' : Owned L (ledger_of L (sweep_state made))) (ready : is_undone (row s.threads t) ≡ true) where
   -- the new object is of its struct
   new_types : (q : ℕ) → IsIn (sweep_state made) q → (types_of L (sweep_state made)).struct_of q ≡ (types_with L s o ty).struct_of q

@@ -1,39 +1,43 @@
 -- Returns, refusals, unwound calls, calls issued again and reloads, as they are made, are rows of the ledger.
+use Rattle.std.specs.Option.{option_map_or}
 use Rattle.std.proofs.Common.{◌≡◌, ℕ, suc, ◌-◌, ◌<◌, Bool, true, false, if◌then◌else◌, ◌&&◌, ◌⊎◌, List, [], ◌∷◌, Option, Some, None, slice_get, refl, ap, ap₂, sym, subst, ◌∙◌, arith, inl, inr, ◌≤◌, length}
 use Rattle.std.specs.List.{filter_map}
 use Rattle.std.proofs.lemmas.Bool.{and_parts, or_parts}
-use Rattle.rl_defs.specs.declared.values.Arg.{Arg}
-use Rattle.rl_defs.specs.declared.values.Arg.TheVariants as arg
+use Rattle.machine_defs.specs.declared.values.Arg.{Arg}
+use Rattle.machine_defs.specs.declared.values.Arg.TheVariants as arg
 use Rattle.rl_defs.specs.declared.values.Value.{Value}
-use Rattle.rl_defs.specs.declared.values.Owner.{Owner}
-use Rattle.rl_defs.specs.declared.values.Owner.TheVariants as owner
-use Rattle.rl_defs.specs.declared.values.RpcCode.TheVariants as code
+use Rattle.machine_defs.specs.declared.values.Owner.{Owner}
+use Rattle.machine_defs.specs.declared.values.Owner.TheVariants as owner
+use Rattle.machine_defs.specs.declared.values.RpcCode.TheVariants as code
 use Rattle.rl_defs.specs.declared.tables.Kind.{Kind}
 use Rattle.rl_defs.specs.declared.tables.Kind.TheVariants as kind
-use Rattle.rl_defs.specs.declared.entry.Entry.TheVariants as entry
-use Rattle.rl_defs.specs.declared.frame.Action.TheVariants as action
-use Rattle.rl_defs.specs.declared.frame.Answer.{Answer}
-use Rattle.rl_defs.specs.declared.frame.Answer.TheVariants as answer
-use Rattle.rl_defs.specs.declared.load.Load.{Load}
-use Rattle.rl_defs.specs.Domains.{load_of_target, method_of}
-use Rattle.rl_defs.specs.CodeFits.{Typing}
-use Rattle.rl_defs.specs.State.{State, StackFrame, Object, Thread, Root, row, is_live, current, stack, with_thread}
-use Rattle.rl_defs.specs.Loans.{count}
-use Rattle.rl_defs.specs.Step.{object_in}
-use Rattle.rl_defs.specs.Wanted.{top, instance_load}
-use Rattle.rl_defs.specs.Crossing.{Wish, has, moved_of, lent_of, is_undone, is_taken}
-use Rattle.rl_defs.specs.Machine.NativeFits.{types_of, is_target}
-use Rattle.rl_defs.specs.Machine.Frames.{below_top, popped, with_top, Answers, Replies, AnswersTop, AnswersFrame, AnswersLive, AnswersClient}
-use Rattle.rl_defs.specs.Machine.Calling.{with_fuel, is_dead, is_shadow, is_idempotent, is_reissuable, would_enter, would_reenter, is_enabled, wish}
-use Rattle.rl_defs.specs.Machine.CallRows.{passed_to, Returns, after_return, Unwinds, IssuesAgain, Reloads, WouldCall, WouldReenter}
-use Rattle.rl_defs.specs.Machine.History.{objects_in}
-use Rattle.rl_defs.specs.Machine.Sound.{own_of, arg_stands, args_stand}
+use Rattle.machine_defs.specs.declared.entry.Entry.TheVariants as entry
+use Rattle.machine_defs.specs.declared.frame.Action.TheVariants as action
+use Rattle.machine_defs.specs.declared.frame.Answer.{Answer}
+use Rattle.machine_defs.specs.declared.frame.Answer.TheVariants as answer
+use Rattle.rl_defs.specs.declared.load.LoadRows.{LoadRows}
+use Rattle.rl_defs.specs.Domains.{load_of_target}
+use Rattle.rl_defs.specs.Registers.{Typing}
+use Rattle.machine_defs.specs.State.{State, StackFrame, Object, Thread, Root, is_live, current, stack, with_thread}
+use Rattle.rl_defs.specs.Rows.{row}
+use Rattle.machine_defs.specs.Loans.{count}
+use Rattle.machine_defs.specs.Arguments.{object_of_value}
+use Rattle.machine_defs.specs.State.{top, instance_load}
+use Rattle.machine_defs.specs.Calling.{is_undone, is_taken}
+use Rattle.machine_defs.specs.Arguments.{has, moved_of, lent_of}
+use Rattle.machine_defs.specs.Seen.{types_of}
+use Rattle.rl_defs.specs.Rows.{is_target}
+use Rattle.machine_defs.specs.Frames.{below_top, popped, with_top, Answers, Replies, AnswersTop, AnswersFrame, AnswersLive, AnswersClient}
+use Rattle.machine_defs.specs.Calling.{with_fuel, is_dead, is_shadow, is_idempotent, is_reissuable, would_enter, would_reenter, is_enabled, wish}
+use Rattle.machine_defs.specs.CallRows.{passed_to, Returns, after_return, Unwinds, IssuesAgain, Reloads, WouldCall, WouldReenter}
+use Rattle.machine_defs.specs.Arguments.{objects_in}
+use Rattle.machine_defs.specs.Sound.{own_of, arg_stands, args_stand}
+use Rattle.rl_defs.proofs.ValidFacts.{method_kept, moves_none, shadow_loads, target_there, target_within}
 use Rattle.machine_laws.specs.LedgerOf.{frame_entry, ledger_of}
 use Rattle.machine_laws.specs.LedgerSound.{Owned}
 use Rattle.machine_laws.specs.LedgerRows.{callee, Row}
 use Rattle.machine_laws.specs.Shape.{Laid}
-use Rattle.machine_laws.specs.Plans.{Plans}
-use Rattle.machine_laws.specs.Registers.{HasTables}
+use Rattle.machine_laws.specs.Plans.{Plans, HasTables}
 use Rattle.machine_laws.specs.Fitting.{CallFits, CallsFit, Fitting}
 use Rattle.machine_laws.proofs.Objects.{rises_map}
 use Rattle.machine_laws.proofs.Rows.{row_set_same, row_within}
@@ -61,24 +65,24 @@ thread_there s t is = go (row s.threads t) refl
     go None e = absurd (let h : is_undone None ≡ true = rw e at is in cc)
     go (Some th) e = (th, e)
 
-pub ready_within : (L : Load) (s : State) (t : ℕ) → Laid L s → is_undone (row s.threads t) ≡ true → (0 < t) × (t ≤ length s.stacks)
+pub ready_within : (L : LoadRows) (s : State) (t : ℕ) → Laid L s → is_undone (row s.threads t) ≡ true → (0 < t) × (t ≤ length s.stacks)
 ready_within L s t laid is = let th = thread_there s t is in client_stack L s t th.0 laid th.1
 
-pub laid_given : (L : Load) (s : State) (w : Owner) (os : List ℕ) → Laid L s → Laid L (passed_to w os s)
+pub laid_given : (L : LoadRows) (s : State) (w : Owner) (os : List ℕ) → Laid L s → Laid L (passed_to w os s)
 laid_given L s w os laid = record {
   stacks = laid.stacks;
   threads = laid.threads;
   shadows = laid.shadows;
-  objects = rises_map (λ x. if has os x.number then Rattle.rl_defs.specs.Crossing.owned_by w x else x) (λ x. same (has os x.number) x) 0 s.next_object s.objects laid.objects;
+  objects = rises_map (λ x. if has os x.number then Rattle.machine_defs.specs.Objects.owned_by w x else x) (λ x. same (has os x.number) x) 0 s.next_object s.objects laid.objects;
   started = laid.started;
 }
   where
-    same : (b : Bool) (x : Object) → (if b then Rattle.rl_defs.specs.Crossing.owned_by w x else x).number ≡ x.number
+    same : (b : Bool) (x : Object) → (if b then Rattle.machine_defs.specs.Objects.owned_by w x else x).number ≡ x.number
     same true x = refl
     same false x = refl
 
 -- a reply leaves the instances
-pub reply_instances : (L : Load) (s z : State) (t : ℕ) (a : Answer) → Replies L s t a z → z.instances ≡ s.instances
+pub reply_instances : (L : LoadRows) (s z : State) (t : ℕ) (a : Answer) → Replies L s t a z → z.instances ≡ s.instances
 reply_instances L s z t a replies = go (top (stack s t)) replies
   where
     live : (f : StackFrame) (b : Bool) → AnswersFrame L s t f a b z → z.instances ≡ s.instances
@@ -90,7 +94,7 @@ reply_instances L s z t a replies = go (top (stack s t)) replies
     go (Some f) answers = live f (is_live s f.instance) answers
 
 pub loads_by : (s z : State) → z.instances ≡ s.instances → (i : ℕ) → instance_load z i ≡ instance_load s i
-loads_by s z same i = ap (λ is'. Rattle.rl_defs.specs.Wanted.load_of_instance (row is' i)) same
+loads_by s z same i = ap (λ is'. Rattle.machine_laws.proofs.Parts.load_of_instance (row is' i)) same
 
 -- a call that may be issued again moves nothing
 pub moves_nothing : (types : Typing) (kinds : List Kind) (args : List Arg) → ((p ty : ℕ) → slice_get kinds p ≡ Some (kind.Own ty) → ⊥) → args_stand types kinds args ≡ true → moved_of args ≡ []
@@ -105,7 +109,7 @@ moves_nothing types (kind.Cap t ∷ kinds) (arg.Moved o ∷ args) none stand = a
 moves_nothing types [] (a ∷ args) none stand = absurd cc
 moves_nothing types (k ∷ kinds) [] none stand = absurd cc
 
-module _ (L : Load) (s : State) (plans : Plans L) (tables : HasTables L.tables) (laid : Laid L s) (owned : Owned L (ledger_of L s)) (fits : Fitting L s) where
+module _ (L : LoadRows) (s : State) (plans : Plans L) (tables : HasTables L.tables) (laid : Laid L s) (owned : Owned L (ledger_of L s)) (fits : Fitting L s) where
   -- what the call of a top frame is of
   pub top_call : (t : ℕ) (f : StackFrame) → top (stack s t) ≡ Some f → CallFits L s f
   top_call t f on_top = (calls_back L s (below_top (stack s t)) (f ∷ []) (subst (CallsFit L s) (top_splits (stack s t) f on_top) (fits.calls t))).0
@@ -118,7 +122,7 @@ module _ (L : Load) (s : State) (plans : Plans L) (tables : HasTables L.tables) 
       let w = client_within L s t r.thread laid r.of in
       let s' : State = after_return t r.fuel r.thread results s in
       let popped' : PoppedTo L s t r.thread (with_fuel (r.fuel - 1) r.thread) s' = record {
-        laid = laid_given L (with_thread (popped t s) t (with_fuel (r.fuel - 1) r.thread)) (Rattle.rl_defs.specs.Machine.Frames.acting (popped t s) t) (filter_map object_in results) (laid_thread L (popped t s) t (with_fuel (r.fuel - 1) r.thread) (laid_stack L s t (below_top (stack s t)) laid));
+        laid = laid_given L (with_thread (popped t s) t (with_fuel (r.fuel - 1) r.thread)) (Rattle.machine_defs.specs.Frames.acting (popped t s) t) (filter_map object_of_value results) (laid_thread L (popped t s) t (with_fuel (r.fuel - 1) r.thread) (laid_stack L s t (below_top (stack s t)) laid));
         stack = popped_stack L s t laid w.0 w.1;
         instances = refl;
         of = (let b = row_within s.threads t r.thread r.of in row_set_same s.threads t (with_fuel (r.fuel - 1) r.thread) b.0 b.1);
@@ -158,9 +162,9 @@ module _ (L : Load) (s : State) (plans : Plans L) (tables : HasTables L.tables) 
       let th = thread_there s t wait.0 in
       let call = top_call t r.dead r.of.on_top in
       let target : is_target L x ≡ true = subst (λ n. is_target L n ≡ true) (sym r.through) call.target in
-      let parts = and_parts (is_shadow L r.dead.target) (is_idempotent (method_of L r.dead.target r.dead.method)) r.reissuable in
-      let idem : call.method.idempotent ≡ true = subst (λ m. is_idempotent m ≡ true) call.row parts.1 in
-      let none = moves_nothing (types_of L s) call.method.params r.dead.args ((plans.methods.target r.dead.target r.dead.method call.method call.row).still idem) call.args in
+      let parts = and_parts (is_shadow L r.dead.target) (is_idempotent L r.dead.target r.dead.method) r.reissuable in
+      let idem : call.method.idempotent ≡ true = subst (λ m. option_map_or (λ method. method.idempotent) m false ≡ true) call.row parts.1 in
+      let none = moves_nothing (types_of L s) call.method.params r.dead.args (moves_none L.tables call.method (method_kept L plans r.dead.target r.dead.method call.method call.row) idem) call.args in
       let entry' = begun_entry L z c x i r.dead.method r.dead.args r.frame (λ o moved lent. absurd (let e : count o (moved_of r.dead.args) ≡ 0 = ap (count o) none in omega (arith, e, moved))) r.begins in
       let same : frame_entry r.frame ≡ record (frame_entry r.dead) { party = owner.Instance i; own = [] } = entry' ∙ again_entry c x i r.dead r.of.call r.through call.lent none in
       let lives : is_live s (current L s x) ≡ true = subst (λ n. is_live s n ≡ true) r.into r.lives in
@@ -179,7 +183,7 @@ module _ (L : Load) (s : State) (plans : Plans L) (tables : HasTables L.tables) 
   reloads clients t x i left z ready r =
       let th = thread_there s t ready in
       let target : is_target L x ≡ true = needed r.needed in
-      let l = load_there L (load_of_target L x) (plans.targets.there x target) (plans.targets.within x) in
+      let l = load_there L (load_of_target L x) (target_there L (shadow_loads L plans) x target) (target_within L (shadow_loads L plans) x) in
       reload_row L s z t x i left laid th.0 th.1 ready r target l.0 l.1
     where
       needed : WouldCall L s t x ⊎ WouldReenter L s t x → is_target L x ≡ true

@@ -1,27 +1,28 @@
 -- Returns, refusals, unwound calls and calls issued again are their rows of the ledger.
 use Rattle.std.proofs.Common.{◌≡◌, ℕ, suc, ◌-◌, ◌==◌, Bool, true, false, not, ◌||◌, List, [], ◌∷◌, ◌++◌, Option, Some, refl, ap, ap₂, sym, subst, ◌∙◌, arith, inl, inr, add-one}
 use Rattle.std.proofs.lemmas.Bool.{eqb-true, and_parts, not-true}
-use Rattle.rl_defs.specs.declared.values.Arg.{Arg}
+use Rattle.machine_defs.specs.declared.values.Arg.{Arg}
 use Rattle.rl_defs.specs.declared.values.Value.{Value}
-use Rattle.rl_defs.specs.declared.values.Owner.{Owner}
-use Rattle.rl_defs.specs.declared.values.Owner.TheVariants as owner
-use Rattle.rl_defs.specs.declared.values.RpcCode.{RpcCode}
-use Rattle.rl_defs.specs.declared.values.RpcCode.TheVariants as code
-use Rattle.rl_defs.specs.declared.entry.Entry.TheVariants as entry
-use Rattle.rl_defs.specs.declared.frame.Action.TheVariants as action
-use Rattle.rl_defs.specs.declared.frame.Answer.TheVariants as answer
-use Rattle.rl_defs.specs.declared.load.Load.{Load}
-use Rattle.rl_defs.specs.Domains.{method_of}
-use Rattle.rl_defs.specs.State.{State, StackFrame, Thread, Placement, row, is_live, current, stack, with_thread}
-use Rattle.rl_defs.specs.Loans.{count}
-use Rattle.rl_defs.specs.Crossing.{has, moved_of, is_undone}
-use Rattle.rl_defs.specs.Machine.Objects.{without}
-use Rattle.rl_defs.specs.Machine.NativeFits.{is_target}
-use Rattle.rl_defs.specs.Machine.Frames.{below_top, popped, with_top, acting}
-use Rattle.rl_defs.specs.Machine.Calling.{with_fuel, restarts_left, is_gone, is_shadow, is_idempotent, is_reissuable, refusal}
-use Rattle.rl_defs.specs.Machine.CallRows.{numbered, after_return, Returns, is_over, IsDeadCall}
-use Rattle.rl_defs.specs.Machine.History.{objects_in}
-use Rattle.rl_defs.specs.Machine.Sound.{own_of}
+use Rattle.machine_defs.specs.declared.values.Owner.{Owner}
+use Rattle.machine_defs.specs.declared.values.Owner.TheVariants as owner
+use Rattle.machine_defs.specs.declared.values.RpcCode.{RpcCode}
+use Rattle.machine_defs.specs.declared.values.RpcCode.TheVariants as code
+use Rattle.machine_defs.specs.declared.entry.Entry.TheVariants as entry
+use Rattle.machine_defs.specs.declared.frame.Action.TheVariants as action
+use Rattle.machine_defs.specs.declared.frame.Answer.TheVariants as answer
+use Rattle.rl_defs.specs.declared.load.LoadRows.{LoadRows}
+use Rattle.machine_defs.specs.State.{State, StackFrame, Thread, Placement, is_live, current, stack, with_thread}
+use Rattle.rl_defs.specs.Rows.{row}
+use Rattle.machine_defs.specs.Loans.{count}
+use Rattle.machine_defs.specs.Arguments.{has, moved_of}
+use Rattle.machine_defs.specs.Calling.{is_undone}
+use Rattle.machine_defs.specs.Objects.{without}
+use Rattle.rl_defs.specs.Rows.{is_target}
+use Rattle.machine_defs.specs.Frames.{below_top, popped, with_top, acting}
+use Rattle.machine_defs.specs.Calling.{with_fuel, restarts_left, is_gone, is_shadow, is_idempotent, is_reissuable, refusal}
+use Rattle.machine_defs.specs.CallRows.{numbered, after_return, Returns, is_over, IsDeadCall}
+use Rattle.machine_defs.specs.Arguments.{objects_in}
+use Rattle.machine_defs.specs.Sound.{own_of}
 use Rattle.machine_laws.specs.Ledger.{LedgerFrame, Ledger, at, alive}
 use Rattle.machine_laws.specs.LedgerOf.{frame_entry, ledger_of}
 use Rattle.machine_laws.specs.LedgerRows.{Runs, IsDead, Exchanged, MayPass, MayReissue, IsFree, with_own, give, remove, Row}
@@ -35,7 +36,7 @@ use Rattle.machine_laws.proofs.CallingRows.{Caller, refused_for, refused_in, cur
 use Rattle.machine_laws.proofs.Replying.{Replied}
 
 -- a frame popped, and its thread charged
-pub popped_charged : (L : Load) (s : State) (t fuel : ℕ) (thread : Thread) → Laid L s → row s.threads t ≡ Some thread
+pub popped_charged : (L : LoadRows) (s : State) (t fuel : ℕ) (thread : Thread) → Laid L s → row s.threads t ≡ Some thread
     → ledger_of L (with_thread (popped t s) t (with_fuel fuel thread)) ≡ record (ledger_of L s) { stack = at t (under s t) ((ledger_of L s).stack) }
 popped_charged L s t fuel thread laid of =
     let w = client_within L s t thread laid of in
@@ -43,7 +44,7 @@ popped_charged L s t fuel thread laid of =
     let same : entries t (below_top (stack s t)) (Some (with_fuel fuel thread)) ≡ under s t = rw of refl in
     ap₂ (λ (st : ℕ → List LedgerFrame) (done : ℕ → Bool). record (ledger_of L s) { stack = st; done = done }) (all' ∙ ap (λ fs. at t fs ((ledger_of L s).stack)) same) (done_same L s t thread (with_fuel fuel thread) of refl)
 
-module _ (L : Load) (s z : State) (t : ℕ) (laid : Laid L s) (ready : is_undone (row s.threads t) ≡ true) where
+module _ (L : LoadRows) (s z : State) (t : ℕ) (laid : Laid L s) (ready : is_undone (row s.threads t) ≡ true) where
   pub return_row : (c : ℕ) (results : List Value) (r : Returns L s t c results z) → (replied : Replied L (after_return t r.fuel r.thread results s) t (answer.Back results) z)
       → ((o : ℕ) → has (objects_in results) o ≡ true → IsIn s o)
       → Exchanged (own_of (acts_as L s t (action.Ret results) r.fuel r.frame r.wants).f) (objects_in results) [] []
@@ -129,7 +130,7 @@ module _ (L : Load) (s z : State) (t : ℕ) (laid : Laid L s) (ready : is_undone
       gone x may =
           let same : f.target ≡ x = may.through in
           let shadow : is_shadow L f.target ≡ true = subst (λ n. is_shadow L n ≡ true) (sym same) may.shadow in
-          let idem : is_idempotent (method_of L f.target f.method) ≡ true = subst (λ n. is_idempotent (method_of L n f.method) ≡ true) (sym same) may.idempotent in
+          let idem : is_idempotent L f.target f.method ≡ true = subst (λ n. is_idempotent L n f.method ≡ true) (sym same) may.idempotent in
           let re : is_reissuable L f ≡ true = rw (shadow, idem) refl in
           let gone' : is_gone L s f.target ≡ true = (let e : (not true || is_gone L s f.target) ≡ true = rw re at over in e) in
           let parts = and_parts (not (is_live s (current L s f.target))) (restarts_left L s f.target == 0) gone' in
@@ -142,7 +143,7 @@ module _ (L : Load) (s z : State) (t : ℕ) (laid : Laid L s) (ready : is_undone
   again_row c x i f g thread of call through target re into lives free begins becomes =
       let w = client_within L s t thread laid of in
       let dead = dead_frame L s t thread f laid of ready call.on_top (not-true (is_live s f.instance) call.dead) in
-      let parts = and_parts (is_shadow L f.target) (is_idempotent (method_of L f.target f.method)) re in
+      let parts = and_parts (is_shadow L f.target) (is_idempotent L f.target f.method) re in
       let all' = Rattle.machine_laws.proofs.Tops.frames_at L s t (below_top (stack s t) ++ g ∷ []) laid w.0 w.1 in
       let push = Rattle.machine_laws.proofs.Stacks.entries_push (below_top (stack s t)) g (bottom t (row s.threads t) ∷ []) in (
         frame_entry f,
@@ -152,7 +153,7 @@ module _ (L : Load) (s z : State) (t : ℕ) (laid : Laid L s) (ready : is_undone
         record {
           through = sym through;
           shadow = subst (λ n. is_shadow L n ≡ true) (sym through) parts.0;
-          idempotent = subst (λ n. is_idempotent (method_of L n f.method) ≡ true) (sym through) parts.1;
+          idempotent = subst (λ n. is_idempotent L n f.method ≡ true) (sym through) parts.1;
         },
         into ∙ sym (current_same L s x target),
         lives,

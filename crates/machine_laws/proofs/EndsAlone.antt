@@ -1,20 +1,22 @@
 -- An end of an instance frees what that instance had and nobody has borrowed, and leaves all else as it was.
+use Rattle.machine_defs.specs.History.{ends}
 use Rattle.std.proofs.Common.{◌≡◌, ◌≢◌, ℕ, ◌==◌, ◌⊎◌, inl, inr, Bool, true, false, cond, not, List, [], ◌∷◌, map, filter, Option, Some, None, refl, ap, sym, subst, ◌∙◌, arith}
 use Rattle.std.proofs.lemmas.Bool.{cases_Bool, cases_eq, eqb-true, and_parts, not-true}
-use Rattle.rl_defs.specs.declared.values.Owner.{Owner}
-use Rattle.rl_defs.specs.declared.values.Owner.TheVariants as owner
-use Rattle.rl_defs.specs.declared.entry.Entry.{Entry}
-use Rattle.rl_defs.specs.declared.entry.Entry.TheVariants as entry
-use Rattle.rl_defs.specs.declared.load.Load.{Load}
-use Rattle.rl_defs.specs.State.{State, Object, Thread, Placement, Root, Hung, row, is_live, with_thread}
-use Rattle.rl_defs.specs.Loans.{loans, has_ended, object_of, is_lost, is_lost_at, is_lost_parent, is_doomed_at, is_doomed, sweep, freed}
-use Rattle.rl_defs.specs.Crossing.{has}
-use Rattle.rl_defs.specs.Texts.{thread_of}
-use Rattle.rl_defs.specs.Machine.Seen.{change_row, ended}
-use Rattle.rl_defs.specs.Machine.Calling.{with_fuel}
-use Rattle.rl_defs.specs.Machine.CallRows.{command_done}
-use Rattle.rl_defs.specs.Machine.Steps.{Row, Turn, Step}
-use Rattle.rl_defs.specs.Machine.Laws.{EndsInstance, IsOf, EndsAlone}
+use Rattle.machine_defs.specs.declared.values.Owner.{Owner}
+use Rattle.machine_defs.specs.declared.values.Owner.TheVariants as owner
+use Rattle.machine_defs.specs.declared.entry.Entry.{Entry}
+use Rattle.machine_defs.specs.declared.entry.Entry.TheVariants as entry
+use Rattle.rl_defs.specs.declared.load.LoadRows.{LoadRows}
+use Rattle.machine_defs.specs.State.{State, Object, Thread, Placement, Root, Hung, is_live, with_thread}
+use Rattle.rl_defs.specs.Rows.{row}
+use Rattle.machine_defs.specs.Loans.{loans, has_ended, object_of, is_lost, is_lost_at, is_lost_parent, is_doomed_at, is_doomed, sweep, freed}
+use Rattle.machine_defs.specs.Arguments.{has}
+use Rattle.machine_defs.specs.Entries.{thread_of}
+use Rattle.machine_defs.specs.Seen.{change_row, ended}
+use Rattle.machine_defs.specs.Calling.{with_fuel}
+use Rattle.machine_defs.specs.CallRows.{command_done}
+use Rattle.machine_defs.specs.Steps.{Row, Turn, Step}
+use Rattle.machine_defs.specs.Laws.{IsOf, EndsAlone}
 use Rattle.machine_laws.specs.LedgerOf.{seat_of, ledger_of}
 use Rattle.machine_laws.specs.LedgerSound.{Owned}
 use Rattle.machine_laws.specs.Shape.{Laid}
@@ -57,7 +59,7 @@ other_rows xs i change j ne = go (row xs i) refl
     go (Some x) is = row_set_other xs i j (change x) (row_within xs i x is).0 ne
 
 -- An instance ends, and a thread's fuel, place or names change.
-module _ (L : Load) (s : State) (laid : Laid L s) (owned : Owned L (ledger_of L s)) (t : ℕ) (old new : Thread) (of : row s.threads t ≡ Some old) (i : ℕ) where
+module _ (L : LoadRows) (s : State) (laid : Laid L s) (owned : Owned L (ledger_of L s)) (t : ℕ) (old new : Thread) (of : row s.threads t ≡ Some old) (i : ℕ) where
   abbrev behind : State
   behind = ended i (with_thread s t new)
 
@@ -137,9 +139,20 @@ module _ (L : Load) (s : State) (laid : Laid L s) (owned : Owned L (ledger_of L 
     came = λ o x is. none_came o x (sym (ap (λ (y : State). object_of y o) swept) ∙ is);
   }
 
+-- the instance that an entry ends
+abbrev EndsInstance : Entry → ℕ → Type 0
+EndsInstance (entry.Trap t i c) j = i ≡ j
+EndsInstance (entry.Kill t i) j = i ≡ j
+EndsInstance _ j = ⊥
+
+ends_instance : (e : Entry) (j : ℕ) → ends j e ≡ true → EndsInstance e j
+ends_instance (entry.Trap t i c) j is = eqb-true i j is
+ends_instance (entry.Kill t i) j is = eqb-true i j is
+ends_instance e j is = absurd cc
+
 -- An end of an instance leaves all other instances and all frames as they are.
-pub ends_alone : (L : Load) (s z : State) (u : Turn) (i : ℕ) → Laid L s → Owned L (ledger_of L s) → Step L s u z → EndsInstance u.entry i → EndsAlone s u i z
-ends_alone L s z u i laid owned step ends = by_entry u.entry refl ends step.makes
+pub ends_alone : (L : LoadRows) (s z : State) (u : Turn) (i : ℕ) → Laid L s → Owned L (ledger_of L s) → Step L s u z → ends i u.entry ≡ true → EndsAlone s u i z
+ends_alone L s z u i laid owned step over = by_entry u.entry refl (ends_instance u.entry i over) step.makes
   where
     by_entry : (e : Entry) → u.entry ≡ e → EndsInstance e i → Row L s e step.made → EndsAlone s u i z
     by_entry (entry.Trap t j cause) is same r =

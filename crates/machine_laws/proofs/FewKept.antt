@@ -1,35 +1,38 @@
--- At most 65,536 objects are live: at the start, behind each row, and behind each sweep.
+-- At most 65,536 objects are live: at the start, after each row, and after each sweep.
 use Rattle.std.proofs.Common.{◌≡◌, ℕ, zero, suc, ◌+◌, ◌<◌, ◌≤◌, Bool, true, false, not, ◌&&◌, inl, inr, nat_le, nat_lt, if◌then◌else◌, List, [], ◌∷◌, length, map, filter, Option, Some, None, slice_get, refl, ap, subst, ◌∙◌, arith, ltb-true, leb-false}
 use Rattle.std.proofs.lemmas.Bool.{cases_Bool}
 use Rattle.std.specs.List.{list_all}
 use Rattle.std.proofs.lemmas.List.{length-map, length-append}
-use Rattle.rl_defs.specs.declared.values.Owner.{Owner}
-use Rattle.rl_defs.specs.declared.entry.Entry.{Entry}
-use Rattle.rl_defs.specs.declared.entry.Entry.TheVariants as entry
-use Rattle.rl_defs.specs.declared.values.Cause.TheVariants as cause
-use Rattle.rl_defs.specs.declared.frame.Action.{Action}
-use Rattle.rl_defs.specs.declared.frame.Action.TheVariants as action
-use Rattle.rl_defs.specs.declared.frame.FrameBody.{FrameBody}
-use Rattle.rl_defs.specs.declared.frame.FrameBody.TheVariants as body
-use Rattle.rl_defs.specs.declared.load.Load.{Load}
+use Rattle.machine_defs.specs.declared.values.Owner.{Owner}
+use Rattle.machine_defs.specs.declared.entry.Entry.{Entry}
+use Rattle.machine_defs.specs.declared.entry.Entry.TheVariants as entry
+use Rattle.machine_defs.specs.declared.values.Cause.TheVariants as cause
+use Rattle.machine_defs.specs.declared.frame.Action.{Action}
+use Rattle.machine_defs.specs.declared.frame.Action.TheVariants as action
+use Rattle.machine_defs.specs.declared.frame.FrameBody.{FrameBody}
+use Rattle.machine_defs.specs.declared.frame.FrameBody.TheVariants as body
+use Rattle.rl_defs.specs.declared.load.LoadRows.{LoadRows}
 use Rattle.rl_defs.specs.declared.load.Command.{Command}
 use Rattle.rl_defs.specs.declared.load.Command.TheVariants as command
-use Rattle.rl_defs.specs.State.{State, StackFrame, Object, Thread, row, start}
-use Rattle.rl_defs.specs.Loans.{sweep, is_doomed}
-use Rattle.rl_defs.specs.Crossing.{has, owned_by}
-use Rattle.rl_defs.specs.Wanted.{Commands, Skips, Acts, used, is_bound, makes, can_do, held as name_held, by_command, commands_of}
-use Rattle.rl_defs.specs.Machine.Objects.{fresh_object}
-use Rattle.rl_defs.specs.Machine.Wants.{by_body}
-use Rattle.rl_defs.specs.Machine.ObjectRows.{Gives, Makes}
-use Rattle.rl_defs.specs.Machine.Steps.{Row}
-use Rattle.machine_laws.specs.Plans.{Plans}
-use Rattle.machine_laws.specs.Registers.{HasTables}
+use Rattle.machine_defs.specs.State.{State, StackFrame, Object, Thread, start}
+use Rattle.rl_defs.specs.Rows.{row}
+use Rattle.machine_defs.specs.Loans.{sweep, is_doomed}
+use Rattle.machine_defs.specs.Arguments.{has}
+use Rattle.machine_defs.specs.Objects.{owned_by}
+use Rattle.machine_defs.specs.Wants.{Commands, Skips, Acts, used, makes, can_do, name_held, by_command}
+use Rattle.rl_defs.specs.Rows.{commands_of}
+use Rattle.machine_defs.specs.Objects.{fresh_object}
+use Rattle.machine_defs.specs.Wants.{by_body}
+use Rattle.machine_defs.specs.ObjectRows.{Gives, Makes}
+use Rattle.machine_defs.specs.Steps.{Row}
+use Rattle.machine_laws.specs.Plans.{Plans, HasTables}
 use Rattle.machine_laws.specs.Shape.{Laid}
 use Rattle.machine_laws.specs.Fitting.{Fitting}
 use Rattle.machine_laws.proofs.Acting.{ActsAs, acts_as, commands_as}
 use Rattle.machine_laws.proofs.CodeDoing.{code_does}
 use Rattle.machine_laws.proofs.Moves.{IsNew, Moves, row_moves}
 use Rattle.machine_laws.proofs.SoundKinds.{Few}
+use Rattle.machine_laws.proofs.Parts.{is_bound}
 
 abbrev NoMore : State → State → Type 0
 NoMore s z = length z.objects ≤ length s.objects
@@ -45,7 +48,7 @@ as_many : (g : Object → Object) (xs : List Object) → length (map g xs) ≤ l
 as_many g xs = let e = length-map xs g in omega (arith, e)
 
 -- all but a `new` make no more objects
-no_more_moves : (L : Load) (e : Entry) → (IsNew e → ⊥) → Moves L e NoMore
+no_more_moves : (L : LoadRows) (e : Entry) → (IsNew e → ⊥) → Moves L e NoMore
 no_more_moves L e old = record {
   still = λ s. omega arith;
   behind = λ s m z a b. omega (arith, a, b);
@@ -88,7 +91,7 @@ gives_makes (command.Text name of given) ty values gives = refl
 gives_makes other ty values gives = absurd gives
 
 -- a native body that makes an object has room for it
-native_room : (L : Load) (s : State) (f : StackFrame) (fuel : ℕ) (held : List ℕ) (kept : Action) (ty rest : ℕ) (frame : StackFrame) → by_body L s fuel f (body.Native held kept) ≡ Acts (action.New ty) rest frame → length s.objects < 65536
+native_room : (L : LoadRows) (s : State) (f : StackFrame) (fuel : ℕ) (held : List ℕ) (kept : Action) (ty rest : ℕ) (frame : StackFrame) → by_body L s fuel f (body.Native held kept) ≡ Acts (action.New ty) rest frame → length s.objects < 65536
 native_room L s f zero held kept ty rest frame e = absurd cc
 native_room L s f (suc fuel) held (action.New of) ty rest frame e = elim (cases_Bool (nat_lt (length s.objects) 65536)) [
   | inl room ↦ ltb-true (length s.objects) 65536 room
@@ -96,7 +99,7 @@ native_room L s f (suc fuel) held (action.New of) ty rest frame e = elim (cases_
 ]
 native_room L s f (suc fuel) held other ty rest frame e = absurd cc
 
-module _ (L : Load) (s : State) (plans : Plans L) (tables : HasTables L.tables) (laid : Laid L s) (fits : Fitting L s) where
+module _ (L : LoadRows) (s : State) (plans : Plans L) (tables : HasTables L.tables) (laid : Laid L s) (fits : Fitting L s) where
   frame_room : (t ty rest : ℕ) (frame : StackFrame) → ActsAs L s t (action.New ty) rest frame → length s.objects < 65536
   frame_room t ty rest frame doing = go doing.f.body refl
     where
@@ -131,5 +134,5 @@ module _ (L : Load) (s : State) (plans : Plans L) (tables : HasTables L.tables) 
 pub few_sweep : (s : State) → Few s → Few (sweep s)
 few_sweep s few = let r = filter_shorter (λ x. not (is_doomed s x)) s.objects in omega (arith, r, few)
 
-pub few_start : (L : Load) → Few (start L)
+pub few_start : (L : LoadRows) → Few (start L)
 few_start L = omega arith

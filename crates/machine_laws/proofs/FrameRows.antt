@@ -1,18 +1,19 @@
 -- The actions of frames are rows of the ledger. What the premises say of the frame's own objects comes from what its code or body is.
 use Rattle.std.proofs.Common.{◌≡◌, ℕ, ◌-◌, Bool, true, List, [], ◌∷◌, ◌++◌, Some, refl, ap, sym, subst, ap₂, ◌∙◌}
 use Rattle.std.proofs.lemmas.List.{length-set}
-use Rattle.rl_defs.specs.declared.values.Owner.TheVariants as owner
-use Rattle.rl_defs.specs.declared.frame.Action.{Action}
-use Rattle.rl_defs.specs.declared.frame.Answer.{Answer}
-use Rattle.rl_defs.specs.declared.frame.FrameBody.{FrameBody}
-use Rattle.rl_defs.specs.declared.frame.FrameBody.TheVariants as body
-use Rattle.rl_defs.specs.declared.load.Load.{Load}
-use Rattle.rl_defs.specs.State.{State, StackFrame, Thread, row, is_live, stack, with_thread}
-use Rattle.rl_defs.specs.Crossing.{is_undone}
-use Rattle.rl_defs.specs.Machine.Frames.{AnswersBody, below_top, with_top, with_body}
-use Rattle.rl_defs.specs.Machine.Calling.{with_fuel}
-use Rattle.rl_defs.specs.Machine.ObjectRows.{Does}
-use Rattle.rl_defs.specs.Machine.Sound.{own_of}
+use Rattle.machine_defs.specs.declared.values.Owner.TheVariants as owner
+use Rattle.machine_defs.specs.declared.frame.Action.{Action}
+use Rattle.machine_defs.specs.declared.frame.Answer.{Answer}
+use Rattle.machine_defs.specs.declared.frame.FrameBody.{FrameBody}
+use Rattle.machine_defs.specs.declared.frame.FrameBody.TheVariants as body
+use Rattle.rl_defs.specs.declared.load.LoadRows.{LoadRows}
+use Rattle.machine_defs.specs.State.{State, StackFrame, Thread, is_live, stack, with_thread}
+use Rattle.rl_defs.specs.Rows.{row}
+use Rattle.machine_defs.specs.Calling.{is_undone}
+use Rattle.machine_defs.specs.Frames.{AnswersBody, below_top, with_top, with_body}
+use Rattle.machine_defs.specs.Calling.{with_fuel}
+use Rattle.machine_defs.specs.ObjectRows.{Does}
+use Rattle.machine_defs.specs.Sound.{own_of}
 use Rattle.machine_laws.specs.Ledger.{LedgerFrame, at}
 use Rattle.machine_laws.specs.LedgerOf.{frame_entry, ledger_of}
 use Rattle.machine_laws.specs.LedgerRows.{Runs, with_own}
@@ -22,7 +23,7 @@ use Rattle.machine_laws.proofs.Tops.{bottom, under, entries, client_within, stac
 use Rattle.machine_laws.proofs.Acting.{ActsAs, acts_as}
 
 -- an answered frame is the frame with another body
-pub answered_same : (L : Load) (z : State) (f : StackFrame) (a : Answer) (b : FrameBody Action) (g : StackFrame) → AnswersBody L z f a b g → g ≡ with_body f g.body
+pub answered_same : (L : LoadRows) (z : State) (f : StackFrame) (a : Answer) (b : FrameBody Action) (g : StackFrame) → AnswersBody L z f a b g → g ≡ with_body f g.body
 answered_same L z f a (body.Code at regs) g is = rw is refl
 answered_same L z f a (body.Native held act) g is = rw is.1 refl
 
@@ -40,7 +41,7 @@ body_twice f g h a b = b ∙ ap (λ x. with_body x h.body) a
 abbrev pub gone_on : State → ℕ → StackFrame → Thread → State
 gone_on s t g thread = with_top t g (with_thread s t thread)
 
-pub laid_on : (L : Load) (s : State) (t : ℕ) (g : StackFrame) (thread : Thread) → Laid L s → Laid L (gone_on s t g thread)
+pub laid_on : (L : LoadRows) (s : State) (t : ℕ) (g : StackFrame) (thread : Thread) → Laid L s → Laid L (gone_on s t g thread)
 laid_on L s t g thread laid = record {
   stacks = length-set s.stacks (t - 1) (below_top (stack s t) ++ g ∷ []) ∙ laid.stacks;
   threads = length-set s.threads (t - 1) thread ∙ laid.threads;
@@ -49,7 +50,7 @@ laid_on L s t g thread laid = record {
   started = laid.started;
 }
 
-module _ {L : Load} {s : State} {t i : ℕ} {act : Action} {a : Answer} {change : State → State} {z : State} (laid : Laid L s) (ready : is_undone (row s.threads t) ≡ true) (d : Does L s t i act a change z) where
+module _ {L : LoadRows} {s : State} {t i : ℕ} {act : Action} {a : Answer} {change : State → State} {z : State} (laid : Laid L s) (ready : is_undone (row s.threads t) ≡ true) (d : Does L s t i act a change z) where
   abbrev pub doing : ActsAs L s t act d.fuel d.frame
   doing = acts_as L s t act d.fuel d.frame d.wants
 

@@ -1,36 +1,38 @@
 -- What a frame that fits does is a row of the ledger.
 use Rattle.std.proofs.Common.{◌≡◌, ◌≢◌, ℕ, ◌<◌, ◌==◌, true, false, cond, List, [], ◌∷◌, length, Some, None, slice_get, refl, ap, sym, subst, ◌∙◌, arith, inl, inr}
 use Rattle.std.proofs.lemmas.Bool.{cases_Bool, cases_eq, eq-eqb, eqb-true}
-use Rattle.rl_defs.specs.declared.values.Owner.{Owner}
-use Rattle.rl_defs.specs.declared.values.Owner.TheVariants as owner
+use Rattle.machine_defs.specs.declared.values.Owner.{Owner}
+use Rattle.machine_defs.specs.declared.values.Owner.TheVariants as owner
 use Rattle.rl_defs.specs.declared.code.Instr.{Instr}
-use Rattle.rl_defs.specs.declared.entry.Entry.TheVariants as entry
-use Rattle.rl_defs.specs.declared.frame.Action.{Action}
-use Rattle.rl_defs.specs.declared.frame.Action.TheVariants as action
-use Rattle.rl_defs.specs.declared.frame.Answer.{Answer}
-use Rattle.rl_defs.specs.declared.frame.Answer.TheVariants as answer
-use Rattle.rl_defs.specs.declared.frame.FrameBody.TheVariants as body
-use Rattle.rl_defs.specs.declared.load.Load.{Load}
+use Rattle.machine_defs.specs.declared.entry.Entry.TheVariants as entry
+use Rattle.machine_defs.specs.declared.frame.Action.{Action}
+use Rattle.machine_defs.specs.declared.frame.Action.TheVariants as action
+use Rattle.machine_defs.specs.declared.frame.Answer.{Answer}
+use Rattle.machine_defs.specs.declared.frame.Answer.TheVariants as answer
+use Rattle.machine_defs.specs.declared.frame.FrameBody.TheVariants as body
+use Rattle.rl_defs.specs.declared.load.LoadRows.{LoadRows}
 use Rattle.rl_defs.specs.DomainValue.{Domain}
 use Rattle.rl_defs.specs.CodeKinds.{Kinds, kinds_at}
-use Rattle.rl_defs.specs.CodeFits.{Typing, FitsAnswer}
-use Rattle.rl_defs.specs.Instructions.{Registers}
-use Rattle.rl_defs.specs.Sight.{Sight}
-use Rattle.rl_defs.specs.State.{State, StackFrame, Root, Hung, row, stack}
-use Rattle.rl_defs.specs.Loans.{count}
-use Rattle.rl_defs.specs.Crossing.{has, is_undone}
-use Rattle.rl_defs.specs.Wanted.{instance_load}
-use Rattle.rl_defs.specs.Machine.Objects.{with_new, without, with_cells_of, overwritten, placed}
-use Rattle.rl_defs.specs.Machine.Seen.{domain_of_instance, words, slots, in_slot, with_word, with_slot, seen}
-use Rattle.rl_defs.specs.Machine.NativeFits.{types_of}
-use Rattle.rl_defs.specs.Machine.ObjectRows.{Does, FrameMakes, instead, block, with_block, Takes, Puts, Hangs, Unhangs}
-use Rattle.rl_defs.specs.Machine.Sound.{own_of}
+use Rattle.rl_defs.specs.Registers.{Typing}
+use Rattle.machine_defs.specs.CodeFits.{FitsAnswer}
+use Rattle.rl_defs.specs.Registers.{Registers}
+use Rattle.machine_defs.specs.Sight.{Sight}
+use Rattle.machine_defs.specs.State.{State, StackFrame, Root, Hung, stack}
+use Rattle.rl_defs.specs.Rows.{row}
+use Rattle.machine_defs.specs.Loans.{count}
+use Rattle.machine_defs.specs.Arguments.{has}
+use Rattle.machine_defs.specs.Calling.{is_undone}
+use Rattle.machine_defs.specs.State.{instance_load}
+use Rattle.machine_defs.specs.Objects.{with_new, without, with_cells_of, overwritten, placed}
+use Rattle.machine_defs.specs.Seen.{domain_of_instance, words, slots, in_slot, with_word, with_slot, seen}
+use Rattle.machine_defs.specs.Seen.{types_of}
+use Rattle.machine_defs.specs.ObjectRows.{Does, FrameMakes, instead, block, with_block, Takes, Puts, Hangs, Unhangs}
+use Rattle.machine_defs.specs.Sound.{own_of}
 use Rattle.machine_laws.specs.LedgerOf.{ledger_of}
 use Rattle.machine_laws.specs.LedgerSound.{Owned}
 use Rattle.machine_laws.specs.LedgerRows.{Row}
 use Rattle.machine_laws.specs.Shape.{Laid}
-use Rattle.machine_laws.specs.Plans.{Plans}
-use Rattle.machine_laws.specs.Registers.{HasTables}
+use Rattle.machine_laws.specs.Plans.{Plans, HasTables}
 use Rattle.machine_laws.specs.Fitting.{Fitting}
 use Rattle.machine_laws.proofs.Objects.{found_below}
 use Rattle.machine_laws.proofs.Instances.{loads_kept}
@@ -65,10 +67,10 @@ one_unlent lent o out p some = elim (cases_Bool (o == p)) [
 ]
 
 -- the types of a state in which an object is to be
-abbrev pub types_with : Load → State → ℕ → ℕ → Typing
+abbrev pub types_with : LoadRows → State → ℕ → ℕ → Typing
 types_with L s o ty = record { struct_of = λ q. cond (q == o) ty ((types_of L s).struct_of q); trait_of = (types_of L s).trait_of }
 
-module _ (L : Load) (s z : State) (t : ℕ) (plans : Plans L) (tables : HasTables L.tables) (laid : Laid L s) (owned : Owned L (ledger_of L s)) (fits : Fitting L s) (ready : is_undone (row s.threads t) ≡ true) where
+module _ (L : LoadRows) (s z : State) (t : ℕ) (plans : Plans L) (tables : HasTables L.tables) (laid : Laid L s) (owned : Owned L (ledger_of L s)) (fits : Fitting L s) (ready : is_undone (row s.threads t) ≡ true) where
   -- an action that is answered by `Went`
   module _ {i : ℕ} {act : Action} {change : State → State} (d : Does L s t i act answer.Went change z) (done : IsDone act answer.Went) (load' : instance_load z (actor laid ready d).instance ≡ instance_load s (actor laid ready d).instance) where
     abbrev pub went_answer : (at : ℕ) (regs : Registers) → (is : (actor laid ready d).body ≡ body.Code at regs)
@@ -122,7 +124,7 @@ module _ (L : Load) (s z : State) (t : ℕ) (plans : Plans L) (tables : HasTable
 
   -- what a frame that acts has of its own is a root of its instance
   pub actor_root : {i : ℕ} {act : Action} {a : Answer} {change : State → State} (d : Does L s t i act a change z) (o : ℕ) → 0 < count o (own_of (actor laid ready d)) → seats s o ≡ Some (Root (owner.Instance (actor laid ready d).instance))
-  actor_root d o some = own_root L s laid owned t o (Rattle.rl_defs.specs.Machine.Frames.below_top (stack s t)) [] (actor laid ready d) (Rattle.machine_laws.proofs.Stacks.top_splits (stack s t) (actor laid ready d) (doing laid ready d).on_top) (doing laid ready d).lives some
+  actor_root d o some = own_root L s laid owned t o (Rattle.machine_defs.specs.Frames.below_top (stack s t)) [] (actor laid ready d) (Rattle.machine_laws.proofs.Stacks.top_splits (stack s t) (actor laid ready d) (doing laid ready d).on_top) (doing laid ready d).lives some
 
   -- an action that makes an object
   module _ (w : Owner) (o ty : ℕ) (values : List ℕ) (number : o ≡ s.next_object) (m : FrameMakes L s t w o ty values z) where

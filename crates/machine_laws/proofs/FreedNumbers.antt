@@ -1,8 +1,8 @@
 -- The numbers of the objects that pass a test, by rising number.
 use Rattle.std.proofs.Common.{◌≡◌, ◌≢◌, ℕ, zero, suc, ◌+◌, ◌-◌, ◌<◌, ◌≤◌, Bool, true, false, if◌then◌else◌, inl, inr, List, [], ◌∷◌, ◌++◌, map, filter, Some, None, refl, ap, sym, ◌∙◌, arith, append_assoc}
 use Rattle.std.proofs.lemmas.Bool.{cases_Bool, eq-eqb, ne_eqb}
-use Rattle.rl_defs.specs.State.{Object}
-use Rattle.rl_defs.specs.Machine.Caused.{passing}
+use Rattle.machine_defs.specs.State.{Object}
+use Rattle.machine_laws.specs.Ledger.{passing}
 use Rattle.machine_laws.specs.Shape.{Rises}
 use Rattle.machine_laws.proofs.Objects.{found, found_above, found_below}
 

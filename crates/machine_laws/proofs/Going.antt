@@ -1,22 +1,25 @@
 -- What each row makes of its client: the frames of its stack, and what its script's names hold.
 use Rattle.std.proofs.Common.{◌≡◌, ℕ, ◌-◌, true, List, [], ◌∷◌, ◌++◌, map, Some, slice_get, refl, ap, sym, subst, ◌∙◌, arith, inl, inr}
-use Rattle.rl_defs.specs.declared.values.RpcCode.{RpcCode}
-use Rattle.rl_defs.specs.declared.frame.Action.{Action}
-use Rattle.rl_defs.specs.declared.frame.Action.TheVariants as action
-use Rattle.rl_defs.specs.declared.frame.Answer.{Answer}
-use Rattle.rl_defs.specs.declared.frame.Answer.TheVariants as answer
-use Rattle.rl_defs.specs.declared.load.Load.{Load}
+use Rattle.machine_defs.specs.declared.values.RpcCode.{RpcCode}
+use Rattle.machine_defs.specs.declared.frame.Action.{Action}
+use Rattle.machine_defs.specs.declared.frame.Action.TheVariants as action
+use Rattle.machine_defs.specs.declared.frame.Answer.{Answer}
+use Rattle.machine_defs.specs.declared.frame.Answer.TheVariants as answer
+use Rattle.rl_defs.specs.declared.load.LoadRows.{LoadRows}
 use Rattle.rl_defs.specs.declared.load.Command.{Command}
 use Rattle.rl_defs.specs.declared.load.Command.TheVariants as command
-use Rattle.rl_defs.specs.CodeFits.{Typing}
-use Rattle.rl_defs.specs.State.{State, StackFrame, Thread, row, stack, with_thread}
-use Rattle.rl_defs.specs.Wanted.{commands_of, arg_of}
-use Rattle.rl_defs.specs.Crossing.{Wish, kept, moved_of, is_undone}
-use Rattle.rl_defs.specs.Step.{after_command}
-use Rattle.rl_defs.specs.Machine.Frames.{Replies, below_top, with_top, waiting}
-use Rattle.rl_defs.specs.Machine.Calling.{wish, with_fuel}
-use Rattle.rl_defs.specs.Machine.CallRows.{command_done}
-use Rattle.rl_defs.specs.Machine.ObjectRows.{Does, Commanded}
+use Rattle.rl_defs.specs.Registers.{Typing}
+use Rattle.machine_defs.specs.State.{State, StackFrame, Thread, stack, with_thread}
+use Rattle.rl_defs.specs.Rows.{row}
+use Rattle.rl_defs.specs.Rows.{commands_of}
+use Rattle.machine_defs.specs.Wants.{arg_of}
+use Rattle.machine_defs.specs.Calling.{Wish, unless_moved, is_undone}
+use Rattle.machine_defs.specs.Arguments.{moved_of}
+use Rattle.machine_defs.specs.Frames.{after_command}
+use Rattle.machine_defs.specs.Frames.{Replies, below_top, with_top, waiting}
+use Rattle.machine_defs.specs.Calling.{wish, with_fuel}
+use Rattle.machine_defs.specs.CallRows.{command_done}
+use Rattle.machine_defs.specs.ObjectRows.{Does, Commanded}
 use Rattle.machine_laws.specs.Shape.{Laid}
 use Rattle.machine_laws.specs.AtCall.{IsCallOf, AtCall}
 use Rattle.machine_laws.proofs.Stacks.{top_pushed}
@@ -28,8 +31,8 @@ use Rattle.machine_laws.proofs.Turning.{Turned, turned_start, turned_thread, tur
 use Rattle.machine_laws.proofs.AtCalls.{SameLowest, lowest_self, lowest_then, lowest_top, lowest_pushed, stands_at}
 use Rattle.machine_laws.proofs.Renaming.{Renamed, renamed_same, renamed_then, renamed_done, renamed_moved}
 
--- The client's frames and thread behind a row. It stands at the call of the lowest frame, and its names hold what they did or what suits.
-pub record Goes (L : Load) (s z : State) (t : ℕ) (types : Typing) : Type 0 where
+-- The client's frames and thread after a row. It stands at the call of the lowest frame, and its names hold what they did or what suits.
+pub record Goes (L : LoadRows) (s z : State) (t : ℕ) (types : Typing) : Type 0 where
   pub old : Thread
   pub of : row s.threads t ≡ Some old
   pub frames : List StackFrame
@@ -39,7 +42,7 @@ pub record Goes (L : Load) (s z : State) (t : ℕ) (types : Typing) : Type 0 whe
   pub renamed : Renamed L types t old new
 
 -- a caller that has paid: its frames, and those with the frame of its call above them
-pub record Paid (L : Load) (s : State) (t : ℕ) (types : Typing) (w : Wish) : Type 0 where
+pub record Paid (L : LoadRows) (s : State) (t : ℕ) (types : Typing) (w : Wish) : Type 0 where
   pub old : Thread
   pub of : row s.threads t ≡ Some old
   pub frames : List StackFrame
@@ -51,12 +54,12 @@ pub record Paid (L : Load) (s : State) (t : ℕ) (types : Typing) (w : Wish) : T
   pub pushes : (g : StackFrame) → g.target ≡ w.target → g.method ≡ w.method → (f : StackFrame) (above : List StackFrame) → frames ++ g ∷ [] ≡ f ∷ above → IsCallOf (slice_get (commands_of (row L.clients t)) new.place) f.target f.method
 
 -- a command that gives nothing
-pub renamed_command : (L : Load) (types : Typing) (t : ℕ) (thread : Thread) → Renamed L types t thread (command_done L t [] thread)
+pub renamed_command : (L : LoadRows) (types : Typing) (t : ℕ) (thread : Thread) → Renamed L types t thread (command_done L t [] thread)
 renamed_command L types t thread =
     let paid : Thread = with_fuel (L.fuel - 1) thread in
     renamed_then L types t thread paid (command_done L t [] thread) (renamed_same L types t thread paid refl (omega arith)) (renamed_done L types t paid)
 
-module _ (L : Load) (s : State) (laid : Laid L s) (at : (u : ℕ) → AtCall L s u) (t : ℕ) (types : Typing) where
+module _ (L : LoadRows) (s : State) (laid : Laid L s) (at : (u : ℕ) → AtCall L s u) (t : ℕ) (types : Typing) where
   -- where the client has no frame
   pub goes_alone : (z : State) (old new : Thread) → row s.threads t ≡ Some old → stack s t ≡ [] → Turned s z t (stack s t) new → Renamed L types t old new → Goes L s z t types
   goes_alone z old new of alone turned renamed = record {
@@ -145,7 +148,7 @@ module _ (L : Load) (s : State) (laid : Laid L s) (at : (u : ℕ) → AtCall L s
   client_paid : (w : Wish) → ClientWish L s t w → Paid L s t types w
   client_paid w c =
       let moved : List ℕ = moved_of (map (arg_of c.thread.names) c.given) in
-      let new : Thread = record c.thread { fuel = L.fuel - 1; names = map (kept moved) c.thread.names } in
+      let new : Thread = record c.thread { fuel = L.fuel - 1; names = map (unless_moved moved) c.thread.names } in
       let charged_is : w.charged ≡ with_thread s t new = ap (λ (v : Wish). v.charged) c.is in
       let does = commanding L s t c.thread (command.Call w.target w.method c.given c.names) c.of c.wants in
       record {

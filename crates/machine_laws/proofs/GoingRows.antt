@@ -1,45 +1,48 @@
 -- What each row makes of its client's frames and names: the rows one by one.
 use Rattle.std.proofs.Common.{◌≡◌, ℕ, zero, suc, ◌-◌, ◌==◌, true, cond, ◌⊎◌, List, [], ◌∷◌, ◌++◌, Some, None, slice_get, refl, ap, sym, subst, ◌∙◌, arith, inl, inr}
 use Rattle.std.proofs.lemmas.Bool.{eq-eqb}
-use Rattle.rl_defs.specs.declared.values.Arg.{Arg}
+use Rattle.machine_defs.specs.declared.values.Arg.{Arg}
 use Rattle.rl_defs.specs.declared.values.Value.{Value}
 use Rattle.rl_defs.specs.declared.values.Value.TheVariants as value
-use Rattle.rl_defs.specs.declared.values.Owner.{Owner}
-use Rattle.rl_defs.specs.declared.values.Owner.TheVariants as owner
-use Rattle.rl_defs.specs.declared.values.RpcCode.{RpcCode}
-use Rattle.rl_defs.specs.declared.values.RpcCode.TheVariants as code
-use Rattle.rl_defs.specs.declared.entry.Entry.{Entry}
-use Rattle.rl_defs.specs.declared.entry.Entry.TheVariants as entry
-use Rattle.rl_defs.specs.declared.frame.Action.TheVariants as action
-use Rattle.rl_defs.specs.declared.frame.Answer.TheVariants as answer
+use Rattle.machine_defs.specs.declared.values.Owner.{Owner}
+use Rattle.machine_defs.specs.declared.values.Owner.TheVariants as owner
+use Rattle.machine_defs.specs.declared.values.RpcCode.{RpcCode}
+use Rattle.machine_defs.specs.declared.values.RpcCode.TheVariants as code
+use Rattle.machine_defs.specs.declared.entry.Entry.{Entry}
+use Rattle.machine_defs.specs.declared.entry.Entry.TheVariants as entry
+use Rattle.machine_defs.specs.declared.frame.Action.TheVariants as action
+use Rattle.machine_defs.specs.declared.frame.Answer.TheVariants as answer
 use Rattle.rl_defs.specs.declared.tables.Kind.{Kind}
 use Rattle.rl_defs.specs.declared.tables.Kind.TheVariants as kind
-use Rattle.rl_defs.specs.declared.load.Load.{Load}
+use Rattle.rl_defs.specs.declared.load.LoadRows.{LoadRows}
 use Rattle.rl_defs.specs.declared.load.Command.{Command}
 use Rattle.rl_defs.specs.declared.load.Command.TheVariants as command
 use Rattle.rl_defs.specs.CodeNames.{results_of}
-use Rattle.rl_defs.specs.CodeFits.{Typing}
+use Rattle.rl_defs.specs.Registers.{Typing}
 use Rattle.rl_defs.specs.Domains.{method_of}
-use Rattle.rl_defs.specs.State.{State, StackFrame, Thread, Root, Hung, bound_by, row, stack, with_stack, with_thread}
-use Rattle.rl_defs.specs.Loans.{object_of}
-use Rattle.rl_defs.specs.Texts.{thread_of}
-use Rattle.rl_defs.specs.Wanted.{Skips, commands_of}
-use Rattle.rl_defs.specs.Crossing.{Wish, moved_of, is_undone}
-use Rattle.rl_defs.specs.Step.{after_command}
-use Rattle.rl_defs.specs.Machine.Objects.{cells_in, with_new, without, with_cells_of, overwritten, placed}
-use Rattle.rl_defs.specs.Machine.Seen.{with_word, with_slot}
-use Rattle.rl_defs.specs.Machine.NativeFits.{types_of, value_suits, values_suit}
-use Rattle.rl_defs.specs.Machine.Frames.{below_top, popped}
-use Rattle.rl_defs.specs.Machine.Calling.{with_fuel}
-use Rattle.rl_defs.specs.Machine.CallRows.{numbered, entered, after_return, command_done, Calls, Refuses, Returns, Unwinds, IssuesAgain, Reloads, Traps, Kills}
-use Rattle.rl_defs.specs.Machine.ObjectRows.{Gives, ClientMakes, FrameMakes, ClientDrops, without_name, with_block, block, instead, same as same_state, Passes, Ends}
-use Rattle.rl_defs.specs.Machine.Sound.{BindsName}
-use Rattle.rl_defs.specs.Machine.Steps.{Row}
+use Rattle.machine_defs.specs.State.{State, StackFrame, Thread, Root, Hung, stack, with_stack, with_thread}
+use Rattle.rl_defs.specs.Rows.{bound_by, row}
+use Rattle.machine_defs.specs.Loans.{object_of}
+use Rattle.machine_defs.specs.Entries.{thread_of}
+use Rattle.machine_defs.specs.Wants.{Skips}
+use Rattle.rl_defs.specs.Rows.{commands_of}
+use Rattle.machine_defs.specs.Calling.{Wish, is_undone}
+use Rattle.machine_defs.specs.Arguments.{moved_of}
+use Rattle.machine_defs.specs.Frames.{after_command}
+use Rattle.machine_defs.specs.Objects.{cells_in, with_new, without, with_cells_of, overwritten, placed}
+use Rattle.machine_defs.specs.Seen.{with_word, with_slot}
+use Rattle.machine_defs.specs.NativeFits.{value_suits, values_suit}
+use Rattle.machine_defs.specs.Seen.{types_of}
+use Rattle.machine_defs.specs.Frames.{below_top, popped}
+use Rattle.machine_defs.specs.Calling.{with_fuel}
+use Rattle.machine_defs.specs.CallRows.{numbered, call_entered, after_return, command_done, Calls, Refuses, Returns, Unwinds, IssuesAgain, Reloads, Traps, Kills}
+use Rattle.machine_defs.specs.ObjectRows.{Gives, ClientMakes, FrameMakes, ClientDrops, without_name, with_block, block, instead, same as same_state, SkipsCommand, FinishesScript}
+use Rattle.rl_defs.specs.Rows.{BindsName}
+use Rattle.machine_defs.specs.Steps.{Row}
 use Rattle.machine_laws.specs.LedgerOf.{ledger_of}
 use Rattle.machine_laws.specs.LedgerSound.{Owned}
 use Rattle.machine_laws.specs.Shape.{Laid}
-use Rattle.machine_laws.specs.Plans.{Plans}
-use Rattle.machine_laws.specs.Registers.{HasTables}
+use Rattle.machine_laws.specs.Plans.{Plans, HasTables}
 use Rattle.machine_laws.specs.Fitting.{Fitting}
 use Rattle.machine_laws.specs.AtCall.{AtCall}
 use Rattle.machine_laws.proofs.Stacks.{top_splits}
@@ -55,12 +58,12 @@ use Rattle.machine_laws.proofs.AtCalls.{lowest_then, lowest_top, lowest_popped, 
 use Rattle.machine_laws.proofs.Renaming.{renamed_same, renamed_then, renamed_bound, renamed_unbound}
 use Rattle.machine_laws.proofs.Going.{Goes, renamed_command, goes_alone, goes_still, goes_does, goes_command, goes_failed, paid}
 
--- the types behind an entry, of the objects that were there and the one that it makes
-abbrev pub types_behind : Load → State → Entry → Typing
+-- the types after an entry, of the objects that were there and the one that it makes
+abbrev pub types_behind : LoadRows → State → Entry → Typing
 types_behind L s (entry.New t w o ty values) = types_with L s o ty
 types_behind L s e = types_of L s
 
-module _ (L : Load) (s : State) (plans : Plans L) (tables : HasTables L.tables) (laid : Laid L s) (owned : Owned L (ledger_of L s)) (fits : Fitting L s) (at : (u : ℕ) → AtCall L s u) where
+module _ (L : LoadRows) (s : State) (plans : Plans L) (tables : HasTables L.tables) (laid : Laid L s) (owned : Owned L (ledger_of L s)) (fits : Fitting L s) (at : (u : ℕ) → AtCall L s u) where
   start : (t : ℕ) (old : Thread) → row s.threads t ≡ Some old → Turned s s t (stack s t) old
   start t old of = turned_start L s t old laid of
 
@@ -76,7 +79,7 @@ module _ (L : Load) (s : State) (plans : Plans L) (tables : HasTables L.tables) 
         of = p.of;
         frames = frames;
         new = p.new;
-        turned = subst (λ y. Turned s y t frames p.new) (sym r.becomes) (turned_alike s mid (entered t c i args r.frame r.charged) t frames p.new refl refl pushed);
+        turned = subst (λ y. Turned s y t frames p.new) (sym r.becomes) (turned_alike s mid (call_entered t c i args r.frame r.charged) t frames p.new refl refl pushed);
         stands = p.pushes r.frame (ap (λ (g : StackFrame). g.target) r.begins.is) (ap (λ (g : StackFrame). g.method) r.begins.is);
         renamed = p.renamed;
       }
@@ -114,7 +117,7 @@ module _ (L : Load) (s : State) (plans : Plans L) (tables : HasTables L.tables) 
           let alone : stack s t ≡ acts.f ∷ [] = top_splits (stack s t) acts.f acts.on_top ∙ ap (λ fs. fs ++ acts.f ∷ []) empty in
           let calls = (at t).calls acts.f [] r.thread alone r.of in
           let next : Command = command.Call acts.f.target acts.f.method calls.0 calls.1 in
-          let unused = command_unused L t plans.scripts s r.thread (fits.names t r.thread r.of) next calls.2 in
+          let unused = command_unused L t plans s r.thread (fits.names t r.thread r.of) next calls.2 in
           let suits : values_suit (types_of L s) (results_of (method_of L acts.f.target acts.f.method)) results ≡ true = subst (λ m. values_suit (types_of L s) (results_of m) results ≡ true) (sym well.row) well.suits in
           record {
             old = r.thread;
@@ -124,7 +127,7 @@ module _ (L : Load) (s : State) (plans : Plans L) (tables : HasTables L.tables) 
             turned = turned';
             stands = λ f above is. absurd cc;
             renamed = renamed_then L (types_of L s) t r.thread charged (after_command L t charged results) (renamed_same L (types_of L s) t r.thread charged refl (omega arith))
-                (renamed_bound L (types_of L s) t charged next results plans.scripts calls.2 unused (λ i k v name here. back_suits L t plans r.thread acts.f.target acts.f.method calls (types_of L s) results suits i k v name here));
+                (renamed_bound L (types_of L s) t charged next results plans calls.2 unused (λ i k v name here. back_suits L t plans r.thread acts.f.target acts.f.method calls (types_of L s) results suits i k v name here));
           }
       go (ToFrame f next on_top same turned') =
           let charged : Thread = with_fuel (r.fuel - 1) r.thread in
@@ -211,10 +214,10 @@ module _ (L : Load) (s : State) (plans : Plans L) (tables : HasTables L.tables) 
       let thread : Thread = m.does.thread in
       let charged : Thread = with_fuel (L.fuel - 1) thread in
       let does = commanding L s t thread m.next m.does.of m.does.wants in
-      let unused = command_unused L t plans.scripts s thread (fits.names t thread m.does.of) m.next does.here in
+      let unused = command_unused L t plans s thread (fits.names t thread m.does.of) m.next does.here in
       goes_command L s laid at t (types_with L s o ty) (with_new L ty w values) m.does (λ y. refl) (λ y. refl)
       (renamed_then L (types_with L s o ty) t thread charged (command_done L t (value.Obj o ∷ []) thread) (renamed_same L (types_with L s o ty) t thread charged refl (omega arith))
-      (renamed_bound L (types_with L s o ty) t charged m.next (value.Obj o ∷ []) plans.scripts does.here unused (made_suits t thread.place o ty values m.next m.gives does.here)))
+      (renamed_bound L (types_with L s o ty) t charged m.next (value.Obj o ∷ []) plans does.here unused (made_suits t thread.place o ty values m.next m.gives does.here)))
   new_goes t w o ty values z ready (inr m) = goes_does L s laid at t (types_with L s o ty) (with_new L ty w []) m.does ready (λ y. refl) (λ y. refl)
 
   drop_goes : (t o : ℕ) (z : State) → ClientDrops L s t o z → Goes L s z t (types_of L s)
@@ -226,13 +229,13 @@ module _ (L : Load) (s : State) (plans : Plans L) (tables : HasTables L.tables) 
       goes_alone L s laid at t (types_of L s) z d.thread new d.of (commanding L s t d.thread (command.Drop d.name) d.of d.wants).alone turned
       (renamed_then L (types_of L s) t d.thread less new (renamed_unbound L (types_of L s) t d.name d.thread (held_within d.thread.names d.name (value.Obj o) d.object)) (renamed_command L (types_of L s) t less))
 
-  skip_goes : (t number : ℕ) (z : State) → Passes L s t number z → Goes L s z t (types_of L s)
+  skip_goes : (t number : ℕ) (z : State) → SkipsCommand L s t number z → Goes L s z t (types_of L s)
   skip_goes t number z r =
       let new : Thread = command_done L t [] r.thread in
       goes_alone L s laid at t (types_of L s) z r.thread new r.of (commands_as L s t (Skips number) tt r.wants).alone
       (subst (λ y. Turned s y t (stack s t) new) (sym r.becomes) (turned_thread s s t (stack s t) r.thread new (start t r.thread r.of))) (renamed_command L (types_of L s) t r.thread)
 
-  done_goes : (t : ℕ) (z : State) → Ends L s t z → Goes L s z t (types_of L s)
+  done_goes : (t : ℕ) (z : State) → FinishesScript L s t z → Goes L s z t (types_of L s)
   done_goes t z r =
       let new : Thread = record r.thread { done = true } in
       goes_still L s laid at t (types_of L s) z r.thread new r.of (subst (λ y. Turned s y t (stack s t) new) (sym r.becomes) (turned_thread s s t (stack s t) r.thread new (start t r.thread r.of))) refl refl

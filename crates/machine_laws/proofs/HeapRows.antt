@@ -1,18 +1,20 @@
 -- The readings of a history that tell the objects.
-use Rattle.std.proofs.Common.{◌≡◌, ℕ, suc, ◌<◌, ◌≤◌, true, false, cond, ◌⊎◌, List, [], ◌∷◌, Option, Some, None, refl, ap, sym, ◌∙◌, subst, arith, inl, inr}
+use Rattle.std.proofs.Common.{◌≡◌, ℕ, suc, ◌<◌, ◌≤◌, true, false, cond, ◌⊎◌, List, [], ◌∷◌, Option, Some, None, refl, ap, sym, ◌∙◌, subst, arith, inl, inr, Bool}
 use Rattle.std.proofs.lemmas.Bool.{cases_eq, cases_Bool, eq-eqb, ne_eqb, cases_lt}
 use Rattle.rl_defs.specs.declared.values.Value.{Value}
-use Rattle.rl_defs.specs.declared.values.Owner.{Owner}
-use Rattle.rl_defs.specs.declared.values.Owner.TheVariants as owner
-use Rattle.rl_defs.specs.declared.entry.Entry.{Entry}
-use Rattle.rl_defs.specs.declared.entry.Entry.TheVariants as entry
-use Rattle.rl_defs.specs.declared.load.Load.{Load}
-use Rattle.rl_defs.specs.State.{Placement, Root, Hung}
-use Rattle.rl_defs.specs.Loans.{count}
-use Rattle.rl_defs.specs.Crossing.{has, moved_of}
-use Rattle.rl_defs.specs.Texts.{thread_of}
-use Rattle.rl_defs.specs.Machine.Steps.{Turn}
-use Rattle.rl_defs.specs.Machine.History.{closed, open_calls, actor, is_new, objects_made, objects_in, receiver_behind, receiver, parent_behind, parent_at, drops, is_gone}
+use Rattle.machine_defs.specs.declared.values.Owner.{Owner}
+use Rattle.machine_defs.specs.declared.values.Owner.TheVariants as owner
+use Rattle.machine_defs.specs.declared.entry.Entry.{Entry}
+use Rattle.machine_defs.specs.declared.entry.Entry.TheVariants as entry
+use Rattle.rl_defs.specs.declared.load.LoadRows.{LoadRows}
+use Rattle.machine_defs.specs.State.{Placement, Root, Hung}
+use Rattle.machine_defs.specs.Loans.{count}
+use Rattle.machine_defs.specs.Arguments.{has, moved_of}
+use Rattle.machine_defs.specs.Entries.{thread_of}
+use Rattle.machine_defs.specs.Steps.{Turn}
+use Rattle.machine_defs.specs.History.{open_calls, actor_at, is_new, objects_made, receiver_after, receiver_at, parent_after, parent_at, gone_at, dropped}
+use Rattle.machine_laws.proofs.Calls.{closed}
+use Rattle.machine_defs.specs.Arguments.{objects_in}
 use Rattle.machine_laws.specs.Ledger.{LedgerFrame, Ledger, at}
 use Rattle.machine_laws.specs.LedgerRows.{Runs, give, remove, Row}
 use Rattle.machine_laws.specs.LedgerSound.{Owned, Grounded, Placed}
@@ -27,10 +29,10 @@ use Rattle.machine_laws.proofs.Rows.{at_same, at_other}
 -- the history tells the seats
 pub record HeapAgreesIn (us : List Turn) (seat : ℕ → Option Placement) (next_object : ℕ) : Type 0 where
   pub made : suc (objects_made us) ≡ next_object
-  pub root : (o : ℕ) (w : Owner) → seat o ≡ Some (Root w) → (receiver us o ≡ w) × (parent_at us o ≡ None) × (is_gone us o ≡ false)
-  pub hung : (o p k : ℕ) → seat o ≡ Some (Hung p k) → (parent_at us o ≡ Some p) × (is_gone us o ≡ false)
-  pub away : (o : ℕ) → 0 < o → o < next_object → seat o ≡ None → is_gone us o ≡ true
-  pub unborn : (o : ℕ) → next_object ≤ o → (parent_at us o ≡ None) × (is_gone us o ≡ false)
+  pub root : (o : ℕ) (w : Owner) → seat o ≡ Some (Root w) → (receiver_at us o ≡ w) × (parent_at us o ≡ None) × (gone_at us o ≡ false)
+  pub hung : (o p k : ℕ) → seat o ≡ Some (Hung p k) → (parent_at us o ≡ Some p) × (gone_at us o ≡ false)
+  pub away : (o : ℕ) → 0 < o → o < next_object → seat o ≡ None → gone_at us o ≡ true
+  pub unborn : (o : ℕ) → next_object ≤ o → (parent_at us o ≡ None) × (gone_at us o ≡ false)
 
 abbrev pub HeapAgrees : List Turn → Ledger → Type 0
 HeapAgrees us s = HeapAgreesIn us s.seat s.next_object
@@ -38,10 +40,10 @@ HeapAgrees us s = HeapAgreesIn us s.seat s.next_object
 -- what becomes of an object and its readings
 abbrev pub Becomes : List Turn → List Turn → (ℕ → Option Placement) → (ℕ → Option Placement) → ℕ → ℕ → Type 0
 Becomes us us' seat seat' next o =
-    ((seat' o ≡ seat o) × (receiver us' o ≡ receiver us o) × (parent_at us' o ≡ parent_at us o) × (is_gone us' o ≡ is_gone us o))
-    ⊎ (((w : Owner) × (seat' o ≡ Some (Root w)) × (receiver us' o ≡ w) × (parent_at us' o ≡ None) × (is_gone us' o ≡ false))
-    ⊎ (((p : ℕ) × (k : ℕ) × (seat' o ≡ Some (Hung p k)) × (parent_at us' o ≡ Some p) × (is_gone us' o ≡ false))
-    ⊎ ((seat' o ≡ None) × (is_gone us' o ≡ true) × (o < next))))
+    ((seat' o ≡ seat o) × (receiver_at us' o ≡ receiver_at us o) × (parent_at us' o ≡ parent_at us o) × (gone_at us' o ≡ gone_at us o))
+    ⊎ (((w : Owner) × (seat' o ≡ Some (Root w)) × (receiver_at us' o ≡ w) × (parent_at us' o ≡ None) × (gone_at us' o ≡ false))
+    ⊎ (((p : ℕ) × (k : ℕ) × (seat' o ≡ Some (Hung p k)) × (parent_at us' o ≡ Some p) × (gone_at us' o ≡ false))
+    ⊎ ((seat' o ≡ None) × (gone_at us' o ≡ true) × (o < next))))
 
 pub heaped : (us us' : List Turn) (seat seat' : ℕ → Option Placement) (next next' : ℕ) → HeapAgreesIn us seat next → ((o : ℕ) → Becomes us us' seat seat' next o)
     → suc (objects_made us') ≡ next' → next ≤ next' → ((o : ℕ) → next' ≤ o → seat' o ≡ None) → ((o : ℕ) → next ≤ o → o < next' → seat' o ≡ None → ⊥) → HeapAgreesIn us' seat' next'
@@ -76,22 +78,26 @@ heaped us us' seat seat' next next' h becomes counts le fresh born = record {
   ];
 }
 
+-- whether an entry drops an object
+abbrev pub drops : ℕ → Entry → Bool
+drops o e = has (dropped e) o
+
 -- an entry that tells nothing of objects
 pub record IsSilent (e : Entry) : Type 0 where
-  pub receivers : (o : ℕ) (a b w : Owner) → receiver_behind o e a b w ≡ w
-  pub parents : (o : ℕ) (x : Option ℕ) → parent_behind o e x ≡ x
+  pub receivers : (o : ℕ) (a b w : Owner) → receiver_after o e a b w ≡ w
+  pub parents : (o : ℕ) (x : Option ℕ) → parent_after o e x ≡ x
   pub drops : (o : ℕ) → drops o e ≡ false
   pub news : is_new e ≡ 0
 
-module _ (L : Load) (us : List Turn) (s : Ledger) (own : Owned L s) (c : CallsAgree L us s) (p : Placed L s) (h : HeapAgrees us s) where
+module _ (L : LoadRows) (us : List Turn) (s : Ledger) (own : Owned L s) (c : CallsAgree L us s) (p : Placed L s) (h : HeapAgrees us s) where
   -- who acts before an entry
-  pub acts_for : (t : ℕ) (f : LedgerFrame) (fs : List LedgerFrame) → Runs L s t f fs → actor us t ≡ f.party
+  pub acts_for : (t : ℕ) (f : LedgerFrame) (fs : List LedgerFrame) → Runs L s t f fs → actor_at us t ≡ f.party
   acts_for t f fs runs =
       let g : Grounded L s.loads s.next_instance s.next_call t (f ∷ fs) = rw runs.stack at (p.grounded t runs.some runs.within) in
       rw (c.opens t runs.some runs.within, runs.stack) (actor_top L s.loads s.next_instance s.next_call t f fs g)
 
   -- who acts after a return
-  pub acts_behind : (t n : ℕ) (results : List Value) (f g : LedgerFrame) (fs : List LedgerFrame) → Runs L s t f (g ∷ fs) → n ≡ f.call → actor (turn (entry.Ret t n results) [] ∷ us) t ≡ g.party
+  pub acts_behind : (t n : ℕ) (results : List Value) (f g : LedgerFrame) (fs : List LedgerFrame) → Runs L s t f (g ∷ fs) → n ≡ f.call → actor_at (turn (entry.Ret t n results) [] ∷ us) t ≡ g.party
   acts_behind t n results f g fs runs is =
       let ground : Grounded L s.loads s.next_instance s.next_call t (f ∷ g ∷ fs) = rw runs.stack at (p.grounded t runs.some runs.within) in
       let left : closed n (open_calls us t) ≡ calls_of (g ∷ fs) = rw (c.opens t runs.some runs.within, runs.stack) (closed_newest L s.loads s.next_instance s.next_call t n f g fs is ground) in
@@ -99,11 +105,11 @@ module _ (L : Load) (us : List Turn) (s : Ledger) (own : Owned L s) (c : CallsAg
 
   silent : (e : Entry) → IsSilent e → HeapAgrees (turn e [] ∷ us) s
   silent e q = heaped us (turn e [] ∷ us) s.seat s.seat s.next_object s.next_object h
-      (λ o. inl (refl, q.receivers o (actor us (thread_of e)) (actor (turn e [] ∷ us) (thread_of e)) (receiver us o), q.parents o (parent_at us o), rw (q.drops o) refl))
+      (λ o. inl (refl, q.receivers o (actor_at us (thread_of e)) (actor_at (turn e [] ∷ us) (thread_of e)) (receiver_at us o), q.parents o (parent_at us o), rw (q.drops o) refl))
       (let a = h.made in let b = q.news in omega arith) (omega arith) own.fresh (λ o a b. absurd (omega arith))
 
   -- the objects of a list go to a party
-  given : (e : Entry) (os : List ℕ) (w : Owner) → ((o : ℕ) → receiver (turn e [] ∷ us) o ≡ cond (has os o) w (receiver us o)) → ((o : ℕ) (x : Option ℕ) → parent_behind o e x ≡ x) → ((o : ℕ) → drops o e ≡ false) → is_new e ≡ 0
+  given : (e : Entry) (os : List ℕ) (w : Owner) → ((o : ℕ) → receiver_at (turn e [] ∷ us) o ≡ cond (has os o) w (receiver_at us o)) → ((o : ℕ) (x : Option ℕ) → parent_after o e x ≡ x) → ((o : ℕ) → drops o e ≡ false) → is_new e ≡ 0
       → ((o : ℕ) → 0 < count o os → (v : Owner) × (s.seat o ≡ Some (Root v))) → HeapAgreesIn (turn e [] ∷ us) (give os w s.seat) s.next_object
   given e os w receivers parents drops news roots = heaped us (turn e [] ∷ us) s.seat (give os w s.seat) s.next_object s.next_object h
       (λ o. elim (cases_Bool (has os o)) [
@@ -140,7 +146,7 @@ module _ (L : Load) (us : List Turn) (s : Ledger) (own : Owned L s) (c : CallsAg
       let e : Entry = entry.Ret t n results in
       let after = acts_behind t n results f g fs runs r.5 in
       subst (HeapAgrees (turn e [] ∷ us)) (sym r.8)
-      (given e (objects_in results) g.party (λ o. ap (λ w. cond (has (objects_in results) o) w (receiver us o)) after) (λ o x. refl) (λ o. refl) refl
+      (given e (objects_in results) g.party (λ o. ap (λ w. cond (has (objects_in results) o) w (receiver_at us o)) after) (λ o x. refl) (λ o. refl) refl
       (λ o some. (f.party, top_root L s own t f (g ∷ fs) runs o (let a = r.6 o in omega arith))))
   heap_row (entry.Unwound t n) z r = subst (HeapAgrees (turn (entry.Unwound t n) [] ∷ us)) (sym r.8) (silent (entry.Unwound t n) (record { receivers = λ o a b w. refl; parents = λ o x. refl; drops = λ o. refl; news = refl }))
   heap_row (entry.Reload t x i left) z r = subst (HeapAgrees (turn (entry.Reload t x i left) [] ∷ us)) (sym r.9) (silent (entry.Reload t x i left) (record { receivers = λ o a b w. refl; parents = λ o x. refl; drops = λ o. refl; news = refl }))

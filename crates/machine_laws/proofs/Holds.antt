@@ -1,22 +1,24 @@
 -- What holds of every state of every run, and that each step keeps it.
 use Rattle.std.proofs.Common.{◌≡◌, ℕ, ◌≤◌, true, List, [], ◌∷◌, length, sym, subst}
-use Rattle.rl_defs.specs.declared.entry.Entry.{Entry}
-use Rattle.rl_defs.specs.declared.load.Load.{Load}
-use Rattle.rl_defs.specs.State.{State, start}
-use Rattle.rl_defs.specs.Loans.{sweep as sweep_state}
-use Rattle.rl_defs.specs.Texts.{thread_of}
-use Rattle.rl_defs.specs.Machine.Calling.{is_enabled}
-use Rattle.rl_defs.specs.Machine.Steps.{Row as RowOf, Turn, Step}
-use Rattle.rl_defs.specs.Machine.Runs.{Leads, Begins, GoesOn}
-use Rattle.rl_defs.specs.Machine.Sound.{ShadowsStand}
+use Rattle.machine_defs.specs.declared.entry.Entry.{Entry}
+use Rattle.rl_defs.specs.declared.load.LoadRows.{LoadRows}
+use Rattle.machine_defs.specs.State.{State, start}
+use Rattle.machine_defs.specs.Loans.{sweep as sweep_state}
+use Rattle.machine_defs.specs.Entries.{thread_of}
+use Rattle.machine_defs.specs.Calling.{is_enabled}
+use Rattle.machine_defs.specs.Steps.{Row as RowOf, Turn, Step}
+use Rattle.machine_defs.specs.Runs.{Run, Begins, GoesOn}
+use Rattle.machine_defs.specs.History.{turns_of}
+use Rattle.machine_defs.proofs.TurnsTold.{turns_told}
+use Rattle.machine_defs.specs.Sound.{ShadowsStand}
 use Rattle.machine_laws.specs.LedgerOf.{ledger_of}
 use Rattle.machine_laws.specs.LedgerRows.{LedgerStep}
 use Rattle.machine_laws.specs.LedgerSound.{Owned, Placed, IsPlan}
 use Rattle.machine_laws.specs.Shape.{Laid}
-use Rattle.machine_laws.specs.Plans.{Plans}
-use Rattle.machine_laws.specs.Registers.{HasTables}
+use Rattle.machine_laws.specs.Plans.{Plans, HasTables}
 use Rattle.machine_laws.specs.Fitting.{Fitting}
 use Rattle.machine_laws.specs.AtCall.{AtCall}
+use Rattle.machine_laws.proofs.HeldKept.{FewIn}
 use Rattle.machine_laws.proofs.Sweeps.{laid_sweep}
 use Rattle.machine_laws.proofs.LaidRows.{laid_row}
 use Rattle.machine_laws.proofs.StepRows.{ClientFacts, step_ledger}
@@ -25,16 +27,17 @@ use Rattle.machine_laws.proofs.KeptSteps.{Kept, kept_step}
 use Rattle.machine_laws.proofs.LedgerRuns.{LedgerRun, ledger_kept}
 
 -- All that the laws rest on: the layout of the lists, the run of the ledger, and what fits.
-pub record Holds (L : Load) (us : List Turn) (s : State) : Type 0 where
+pub record Holds (L : LoadRows) (us : List Turn) (s : State) : Type 0 where
   pub laid : Laid L s
   pub run : LedgerRun L us (ledger_of L s)
   pub fits : Fitting L s
   pub at : (t : ℕ) → AtCall L s t
   pub few : length s.objects ≤ 65536
   pub shadows : ShadowsStand L s
+  pub held : FewIn L s
 
--- a row from a state of which all that holds, and the ledger behind it
-pub record From (L : Load) (s : State) (e : Entry) (made : State) : Type 0 where
+-- a row from a state of which all that holds, and the ledger after it
+pub record From (L : LoadRows) (s : State) (e : Entry) (made : State) : Type 0 where
   pub plans : Plans L
   pub tables : HasTables L.tables
   pub laid : Laid L s
@@ -44,15 +47,16 @@ pub record From (L : Load) (s : State) (e : Entry) (made : State) : Type 0 where
   pub at : (t : ℕ) → AtCall L s t
   pub few : length s.objects ≤ 65536
   pub shadows : ShadowsStand L s
+  pub held : FewIn L s
   pub facts : ClientFacts L s
   pub enabled : is_enabled L s (thread_of e) ≡ true
   pub row : RowOf L s e made
   pub behind : Owned L (ledger_of L (sweep_state made))
 
-abbrev pub Keeps : Load → (State → Type 0) → Type 0
+abbrev pub Keeps : LoadRows → (State → Type 0) → Type 0
 Keeps L P = (s : State) (e : Entry) (made : State) → From L s e made → P (sweep_state made)
 
-module _ (L : Load) (plans : Plans L) (tables : HasTables L.tables) (plan : IsPlan L) (fitting_kept : Keeps L (Fitting L)) (at_kept : Keeps L (λ s. (t : ℕ) → AtCall L s t)) (few_kept : Keeps L (λ s. length s.objects ≤ 65536)) (shadows_kept : Keeps L (ShadowsStand L)) where
+module _ (L : LoadRows) (plans : Plans L) (tables : HasTables L.tables) (plan : IsPlan L) (fitting_kept : Keeps L (Fitting L)) (at_kept : Keeps L (λ s. (t : ℕ) → AtCall L s t)) (few_kept : Keeps L (λ s. length s.objects ≤ 65536)) (shadows_kept : Keeps L (ShadowsStand L)) (held_kept : Keeps L (FewIn L)) where
   pub holds_step : (us : List Turn) (s : State) (u : Turn) (z : State) → Holds L us s → Step L s u z → Holds L (u ∷ us) z
   holds_step us s u z h step =
       let kept = (ledger_kept L us (ledger_of L s) plan h.run).0 in
@@ -69,6 +73,7 @@ module _ (L : Load) (plans : Plans L) (tables : HasTables L.tables) (plan : IsPl
         at = h.at;
         few = h.few;
         shadows = h.shadows;
+        held = h.held;
         facts = facts;
         enabled = step.enabled;
         row = step.makes;
@@ -81,9 +86,11 @@ module _ (L : Load) (plans : Plans L) (tables : HasTables L.tables) (plan : IsPl
         at = subst (λ y. (t : ℕ) → AtCall L y t) (sym step.swept) (at_kept s u.entry step.made from);
         few = subst (λ (y : State). length y.objects ≤ 65536) (sym step.swept) (few_kept s u.entry step.made from);
         shadows = subst (ShadowsStand L) (sym step.swept) (shadows_kept s u.entry step.made from);
+        held = subst (FewIn L) (sym step.swept) (held_kept s u.entry step.made from);
       }
 
-  -- it holds of every state that turns lead to
-  pub holds_led : Holds L [] (start L) → (us : List Turn) (s : State) → Leads L us s → Holds L us s
-  holds_led first us s (Begins none is) = subst (λ y. Holds L us y) (sym is) (subst (λ vs. Holds L vs (start L)) (sym none) first)
-  holds_led first us s (GoesOn {before = before} {s = s'} u leads step is) = subst (λ vs. Holds L vs s) (sym is) (holds_step before s' u s (holds_led first before s' leads) step)
+  -- it holds of every state of a run, of the turns of its history
+  pub holds_led : Holds L [] (start L) → (H : List Entry) (s : State) → Run L H s → Holds L (turns_of H) s
+  holds_led first H s (Begins none is) = subst (λ y. Holds L (turns_of H) y) (sym is) (subst (λ F. Holds L (turns_of F) (start L)) (sym none) first)
+  holds_led first H s (GoesOn {G = G} {s = s'} u run step is) =
+      subst (λ F. Holds L (turns_of F) s) (sym is) (subst (λ us. Holds L us s) (sym (turns_told L G s' s u step)) (holds_step (turns_of G) s' u s (holds_led first G s' run) step))

@@ -1,23 +1,22 @@
--- What hangs behind each row hangs in a cell of its struct; and so the objects behind each row fit.
+-- What hangs after each row hangs in a cell of its struct; and so the objects after each row fit.
 use Rattle.std.proofs.Common.{◌≡◌, ℕ, ◌-◌, inl, inr, List, Option, Some, None, slice_get, refl, ap, sym, subst, ◌∙◌, arith}
-use Rattle.rl_defs.specs.declared.values.Owner.{Owner}
+use Rattle.machine_defs.specs.declared.values.Owner.{Owner}
 use Rattle.rl_defs.specs.declared.tables.Kind.TheVariants as kind
-use Rattle.rl_defs.specs.declared.entry.Entry.{Entry}
-use Rattle.rl_defs.specs.declared.entry.Entry.TheVariants as entry
-use Rattle.rl_defs.specs.declared.load.Load.{Load}
+use Rattle.machine_defs.specs.declared.entry.Entry.{Entry}
+use Rattle.machine_defs.specs.declared.entry.Entry.TheVariants as entry
+use Rattle.rl_defs.specs.declared.load.LoadRows.{LoadRows}
 use Rattle.rl_defs.specs.CodeNames.{cells_of}
-use Rattle.rl_defs.specs.State.{State, Object, Root, Hung}
-use Rattle.rl_defs.specs.Loans.{object_of, sweep}
-use Rattle.rl_defs.specs.Machine.Calling.{with_fuel}
-use Rattle.rl_defs.specs.Machine.Objects.{kinds_of, with_placement}
-use Rattle.rl_defs.specs.Machine.NativeFits.{types_of, struct_or_none}
-use Rattle.rl_defs.specs.Machine.Steps.{Row}
-use Rattle.valid_loads.specs.ScriptFacts.{ScriptsStand}
+use Rattle.machine_defs.specs.State.{State, Object, Root, Hung}
+use Rattle.machine_defs.specs.Loans.{object_of, sweep}
+use Rattle.machine_defs.specs.Calling.{with_fuel}
+use Rattle.machine_defs.specs.Objects.{kinds_of, with_placement}
+use Rattle.machine_defs.specs.Seen.{types_of}
+use Rattle.machine_defs.specs.Steps.{Row}
+use Rattle.rl_defs.specs.Valid.{Valid}
 use Rattle.machine_laws.specs.LedgerOf.{seat_of, ledger_of}
 use Rattle.machine_laws.specs.LedgerSound.{Owned}
 use Rattle.machine_laws.specs.Shape.{Laid}
-use Rattle.machine_laws.specs.Plans.{Plans}
-use Rattle.machine_laws.specs.Registers.{HasTables}
+use Rattle.machine_laws.specs.Plans.{Plans, HasTables}
 use Rattle.machine_laws.specs.Fitting.{ObjectFits, Fitting}
 use Rattle.machine_laws.proofs.Objects.{found_below}
 use Rattle.machine_laws.proofs.Seats.{seats, IsIn}
@@ -29,14 +28,15 @@ use Rattle.machine_laws.proofs.LaidRows.{laid_row}
 use Rattle.machine_laws.proofs.StaysRows.{stays_as, stays_row, new_stays}
 use Rattle.machine_laws.proofs.CellsFit.{cells_count}
 use Rattle.machine_laws.proofs.ObjectsKept.{does_fit, changed_as, HungSo, carries_hung, filled_row}
+use Rattle.machine_laws.proofs.Parts.{struct_or_none}
 
 -- the kinds of the cells of an object that stayed
-kinds_stay : (L : Load) (P : Object → Object → Type 0) (s z : State) (p : ℕ) → Stays P s z → IsIn z p → kinds_of L (object_of z p) ≡ kinds_of L (object_of s p)
+kinds_stay : (L : LoadRows) (P : Object → Object → Type 0) (s z : State) (p : ℕ) → Stays P s z → IsIn z p → kinds_of L (object_of z p) ≡ kinds_of L (object_of s p)
 kinds_stay L P s z p stays there =
     let was = stays p there.0 there.1 in
     ap (kinds_of L) there.1 ∙ ap (cells_of L.tables) (sym was.ty) ∙ sym (ap (kinds_of L) was.here)
 
-module _ (L : Load) (s : State) (plans : Plans L) (tables : HasTables L.tables) (scripts : ScriptsStand L) (laid : Laid L s) (fits : Fitting L s) where
+module _ (L : LoadRows) (s : State) (plans : Plans L) (tables : HasTables L.tables) (scripts : Valid L) (laid : Laid L s) (fits : Fitting L s) where
   -- an object that was there, and hung so
   hung_before : (z : State) (q p k : ℕ) (x y : Object) → object_of s q ≡ Some x → x.ty ≡ y.ty → x.placement ≡ Hung p k → kinds_of L (object_of z p) ≡ kinds_of L (object_of s p) → slice_get (kinds_of L (object_of z p)) k ≡ Some (kind.Own y.ty)
   hung_before z q p k x y here ty hangs same = ap (λ ks. slice_get ks k) same ∙ (fits.objects q x here).hung p k hangs ∙ ap (λ t. Some (kind.Own t)) ty
@@ -86,7 +86,7 @@ module _ (L : Load) (s : State) (plans : Plans L) (tables : HasTables L.tables) 
   hung_row e z makes = hung_same e z (λ new. new) (λ hangs. hangs) makes
 
 -- Each object that a step leaves fits.
-pub objects_fit : (L : Load) (s : State) (e : Entry) (made : State) → Plans L → HasTables L.tables → ScriptsStand L → Laid L s → Owned L (ledger_of L (sweep made)) → Fitting L s → Row L s e made
+pub objects_fit : (L : LoadRows) (s : State) (e : Entry) (made : State) → Plans L → HasTables L.tables → Valid L → Laid L s → Owned L (ledger_of L (sweep made)) → Fitting L s → Row L s e made
     → (o : ℕ) (x : Object) → object_of (sweep made) o ≡ Some x → ObjectFits L (sweep made) x
 objects_fit L s e made plans tables scripts laid owned fits makes o x is =
     let stays : Stays Unchanged made (sweep made) = stays_sweep Unchanged (λ y. refl) L made (laid_row L s e made laid makes) in

@@ -4,11 +4,13 @@ use Rattle.std.proofs.lemmas.List.{get_or-set_same, get_or-set_other, length-set
 use mathlib.Core.Path.{fun_ext}
 use Rattle.std.specs.List.{slice_index_or}
 use Rattle.std.proofs.lemmas.Bool.{cases_eq, eq-eqb}
-use Rattle.rl_defs.specs.State.{State, Instance, row, lives, is_live}
-use Rattle.rl_defs.specs.Wanted.{load_of_instance, instance_load}
-use Rattle.rl_defs.specs.Machine.Seen.{change_row, with_instance, words_in, slots_in, words, slots, with_word, with_slot, ended}
+use Rattle.machine_defs.specs.State.{State, Instance, lives, is_live}
+use Rattle.rl_defs.specs.Rows.{row}
+use Rattle.machine_defs.specs.State.{instance_load}
+use Rattle.machine_defs.specs.Seen.{change_row, with_instance, words, slots, with_word, with_slot, ended}
 use Rattle.machine_laws.specs.Ledger.{at}
 use Rattle.machine_laws.proofs.Rows.{at_same, at_other, row_within, row_set_same, row_set_other}
+use Rattle.machine_laws.proofs.Parts.{load_of_instance, words_in, slots_in}
 
 -- the row of a changed list
 pub row_changed : {A B : Type 0} (g : Option A → B) (xs : List A) (i : ℕ) (change : A → A) (x : A) → row xs i ≡ Some x

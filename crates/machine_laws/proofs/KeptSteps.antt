@@ -1,12 +1,12 @@
 -- Each step of the ledger keeps what holds of it and of the history, and its turn shows every law.
 use Rattle.std.proofs.Common.{ℕ, ◌-◌, List, [], ◌∷◌}
-use Rattle.rl_defs.specs.declared.entry.Entry.{Entry}
-use Rattle.rl_defs.specs.declared.load.Load.{Load}
-use Rattle.rl_defs.specs.Machine.Steps.{Turn}
-use Rattle.rl_defs.specs.Machine.Answered.{Answered}
-use Rattle.rl_defs.specs.Machine.OwnedOnce.{OwnedOnce}
-use Rattle.rl_defs.specs.Machine.Caused.{Caused}
-use Rattle.rl_defs.specs.Machine.Untouched.{Untouched}
+use Rattle.machine_defs.specs.declared.entry.Entry.{Entry}
+use Rattle.rl_defs.specs.declared.load.LoadRows.{LoadRows}
+use Rattle.machine_defs.specs.Steps.{Turn}
+use Rattle.machine_defs.specs.Answered.{Answered}
+use Rattle.machine_defs.specs.OwnedOnce.{OwnedOnce}
+use Rattle.machine_defs.specs.Caused.{Caused}
+use Rattle.machine_defs.specs.Untouched.{Untouched}
 use Rattle.machine_laws.specs.Ledger.{Ledger, is_doomed, sweep, freed}
 use Rattle.machine_laws.specs.LedgerRows.{Row, LedgerStep}
 use Rattle.machine_laws.specs.LedgerSound.{Owned, Placed, IsPlan}
@@ -27,7 +27,7 @@ use Rattle.machine_laws.proofs.RankRows.{ranks_row}
 use Rattle.machine_laws.proofs.CountedCalls.{Counted, counted_row}
 
 -- what holds of a ledger and of the turns, the newest first, that led to it
-pub record Kept (L : Load) (us : List Turn) (s : Ledger) : Type 0 where
+pub record Kept (L : LoadRows) (us : List Turn) (s : Ledger) : Type 0 where
   pub owned : Owned L s
   pub placed : Placed L s
   pub ranks : Ranks L s
@@ -38,14 +38,14 @@ pub record Kept (L : Load) (us : List Turn) (s : Ledger) : Type 0 where
   pub counted : Counted L us s
 
 -- what a turn shows of the turns before it
-pub record Shows (L : Load) (us : List Turn) (u : Turn) : Type 0 where
-  pub answers : Answered L us u
+pub record Shows (L : LoadRows) (us : List Turn) (u : Turn) : Type 0 where
+  pub answers : Answered L us u.entry
   pub owners : OwnedOnce L us u
   pub causes : Caused L us u
-  pub contents : Untouched us u
+  pub contents : Untouched us u.entry
 
--- an entry's row, and the sweep behind it
-module _ (L : Load) (us : List Turn) (s : Ledger) (plan : IsPlan L) (k : Kept L us s) (e : Entry) (made : Ledger) (row : Row L s e made) where
+-- an entry's row, and the sweep after it
+module _ (L : LoadRows) (us : List Turn) (s : Ledger) (plan : IsPlan L) (k : Kept L us s) (e : Entry) (made : Ledger) (row : Row L s e made) where
   made_before_sweep : BeforeSweep L made
   made_before_sweep = owned_row L s k.owned k.placed e made row
 
@@ -88,7 +88,7 @@ module _ (L : Load) (us : List Turn) (s : Ledger) (plan : IsPlan L) (k : Kept L 
   }
 
 -- one step of whatever kind
-pub kept_step : (L : Load) (us : List Turn) (s : Ledger) (u : Turn) (z : Ledger) → IsPlan L → Kept L us s → LedgerStep L s u.entry u.frees z → Kept L (u ∷ us) z × Shows L us u
+pub kept_step : (L : LoadRows) (us : List Turn) (s : Ledger) (u : Turn) (z : Ledger) → IsPlan L → Kept L us s → LedgerStep L s u.entry u.frees z → Kept L (u ∷ us) z × Shows L us u
 kept_step L us s u z plan k step =
     let made : Ledger = step.0 in
     let row = step.1 in (

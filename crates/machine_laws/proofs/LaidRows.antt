@@ -1,21 +1,22 @@
 -- Each row leaves the state laid out.
 use Rattle.std.proofs.Common.{◌≡◌, ℕ, suc, ◌+◌, ◌-◌, ◌==◌, Bool, true, false, List, length, map, refl, ap, sym, subst, ◌∙◌, if◌then◌else◌, add-one, arith, not, ◌<◌}
 use Rattle.std.proofs.lemmas.List.{length-set}
-use Rattle.rl_defs.specs.declared.values.Owner.{Owner}
-use Rattle.rl_defs.specs.declared.entry.Entry.{Entry}
-use Rattle.rl_defs.specs.declared.load.Load.{Load}
-use Rattle.rl_defs.specs.State.{State, Object, Root, Hung}
-use Rattle.rl_defs.specs.Crossing.{has, owned_by}
-use Rattle.rl_defs.specs.Machine.Objects.{fresh_object, with_new, without, with_cells, with_placement}
-use Rattle.rl_defs.specs.Machine.CallRows.{reloaded}
-use Rattle.rl_defs.specs.Machine.Steps.{Row}
+use Rattle.machine_defs.specs.declared.values.Owner.{Owner}
+use Rattle.machine_defs.specs.declared.entry.Entry.{Entry}
+use Rattle.rl_defs.specs.declared.load.LoadRows.{LoadRows}
+use Rattle.machine_defs.specs.State.{State, Object, Root, Hung}
+use Rattle.machine_defs.specs.Arguments.{has}
+use Rattle.machine_defs.specs.Objects.{owned_by}
+use Rattle.machine_defs.specs.Objects.{fresh_object, with_new, without, with_cells, with_placement}
+use Rattle.machine_defs.specs.CallRows.{reloaded}
+use Rattle.machine_defs.specs.Steps.{Row}
 use Rattle.machine_laws.specs.Shape.{Rises, Laid}
 use Rattle.machine_laws.proofs.Objects.{rises_filter, rises_map, rises_append}
 use Rattle.machine_laws.proofs.Pushing.{laid_stack, laid_thread}
 use Rattle.machine_laws.proofs.Moves.{Moves, row_moves}
 
 -- what stays laid out
-abbrev pub StaysLaid : Load → State → State → Type 0
+abbrev pub StaysLaid : LoadRows → State → State → Type 0
 StaysLaid L s z = Laid L s → Laid L z
 
 -- a change that a test chooses keeps the numbers
@@ -24,7 +25,7 @@ chosen_number true g keeps x = keeps x
 chosen_number false g keeps x = refl
 
 -- other objects of the same numbers
-laid_objects : (L : Load) (s : State) (test : Object → Bool) (g : Object → Object) → ((x : Object) → (g x).number ≡ x.number) → Laid L s → Laid L (record s { objects = map (λ x. if test x then g x else x) s.objects })
+laid_objects : (L : LoadRows) (s : State) (test : Object → Bool) (g : Object → Object) → ((x : Object) → (g x).number ≡ x.number) → Laid L s → Laid L (record s { objects = map (λ x. if test x then g x else x) s.objects })
 laid_objects L s test g keeps laid = record {
   stacks = laid.stacks;
   threads = laid.threads;
@@ -34,7 +35,7 @@ laid_objects L s test g keeps laid = record {
 }
 
 -- nothing that the layout reads
-pub laid_same : (L : Load) (s z : State) → z.stacks ≡ s.stacks → z.threads ≡ s.threads → z.shadows ≡ s.shadows → z.objects ≡ s.objects → z.next_object ≡ s.next_object → Laid L s → Laid L z
+pub laid_same : (L : LoadRows) (s z : State) → z.stacks ≡ s.stacks → z.threads ≡ s.threads → z.shadows ≡ s.shadows → z.objects ≡ s.objects → z.next_object ≡ s.next_object → Laid L s → Laid L z
 laid_same L s z a b c d e laid = record {
   stacks = ap length a ∙ laid.stacks;
   threads = ap length b ∙ laid.threads;
@@ -43,7 +44,7 @@ laid_same L s z a b c d e laid = record {
   started = subst (λ n. 0 < n) (sym e) laid.started;
 }
 
-pub laid_without : (L : Load) (s : State) (os : List ℕ) → Laid L s → Laid L (without os s)
+pub laid_without : (L : LoadRows) (s : State) (os : List ℕ) → Laid L s → Laid L (without os s)
 laid_without L s os laid = record {
   stacks = laid.stacks;
   threads = laid.threads;
@@ -52,7 +53,7 @@ laid_without L s os laid = record {
   started = laid.started;
 }
 
-laid_new : (L : Load) (s : State) (ty : ℕ) (w : Owner) (values : List ℕ) → Laid L s → Laid L (with_new L ty w values s)
+laid_new : (L : LoadRows) (s : State) (ty : ℕ) (w : Owner) (values : List ℕ) → Laid L s → Laid L (with_new L ty w values s)
 laid_new L s ty w values laid =
     let next : s.next_object + 1 ≡ suc s.next_object = add-one s.next_object in
     let rises = rises_append 0 s.next_object s.objects (fresh_object L s.next_object ty w values) laid.objects laid.started refl in
@@ -64,7 +65,7 @@ laid_new L s ty w values laid =
       started = (let a = laid.started in omega arith);
     }
 
-laid_reload : (L : Load) (s : State) (x i left : ℕ) → Laid L s → Laid L (reloaded L x i left s)
+laid_reload : (L : LoadRows) (s : State) (x i left : ℕ) → Laid L s → Laid L (reloaded L x i left s)
 laid_reload L s x i left laid = record {
   stacks = laid.stacks;
   threads = laid.threads;
@@ -73,7 +74,7 @@ laid_reload L s x i left laid = record {
   started = laid.started;
 }
 
-pub laid_moves : (L : Load) (e : Entry) → Moves L e (StaysLaid L)
+pub laid_moves : (L : LoadRows) (e : Entry) → Moves L e (StaysLaid L)
 laid_moves L e = record {
   still = λ s laid. laid;
   behind = λ s m z first second laid. second (first laid);
@@ -94,5 +95,5 @@ laid_moves L e = record {
   reload = λ s x left laid. laid_reload L s x _ left laid;
 }
 
-pub laid_row : (L : Load) (s : State) (e : Entry) (made : State) → Laid L s → Row L s e made → Laid L made
+pub laid_row : (L : LoadRows) (s : State) (e : Entry) (made : State) → Laid L s → Row L s e made → Laid L made
 laid_row L s e made laid makes = row_moves L (StaysLaid L) e (laid_moves L e) s made makes laid

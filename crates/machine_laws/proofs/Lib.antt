@@ -1,3 +1,4 @@
+pub mod Parts
 pub mod Objects
 pub mod FreedNumbers
 pub mod Rows
@@ -122,6 +123,10 @@ pub mod SlotsKept
 pub mod DeviceKept
 pub mod SoundKinds
 pub mod FewKept
+pub mod HeldKept
+pub mod SlotNames
+pub mod HasReply
+pub mod HasStep
 pub mod ShadowRows
 pub mod EndsAlone
 pub mod SomeMoves

@@ -2,27 +2,29 @@
 use Rattle.std.proofs.Common.{◌≡◌, ℕ, ◌+◌, ◌-◌, inl, inr, Bool, true, false, List, [], ◌∷◌, ◌++◌, length, Option, Some, None, ap, sym, subst}
 use Rattle.std.specs.List.{filter_map}
 use Rattle.rl_defs.specs.declared.values.Value.{Value}
-use Rattle.rl_defs.specs.declared.values.Owner.{Owner}
-use Rattle.rl_defs.specs.declared.values.Owner.TheVariants as owner
-use Rattle.rl_defs.specs.declared.entry.Entry.{Entry}
-use Rattle.rl_defs.specs.declared.entry.Entry.TheVariants as entry
-use Rattle.rl_defs.specs.declared.frame.Action.{Action}
-use Rattle.rl_defs.specs.declared.frame.Answer.{Answer}
-use Rattle.rl_defs.specs.declared.frame.Answer.TheVariants as answer
-use Rattle.rl_defs.specs.declared.load.Load.{Load}
+use Rattle.machine_defs.specs.declared.values.Owner.{Owner}
+use Rattle.machine_defs.specs.declared.values.Owner.TheVariants as owner
+use Rattle.machine_defs.specs.declared.entry.Entry.{Entry}
+use Rattle.machine_defs.specs.declared.entry.Entry.TheVariants as entry
+use Rattle.machine_defs.specs.declared.frame.Action.{Action}
+use Rattle.machine_defs.specs.declared.frame.Answer.{Answer}
+use Rattle.machine_defs.specs.declared.frame.Answer.TheVariants as answer
+use Rattle.rl_defs.specs.declared.load.LoadRows.{LoadRows}
 use Rattle.rl_defs.specs.declared.load.Command.{Command}
-use Rattle.rl_defs.specs.State.{State, StackFrame, Thread, Root, Hung, is_live, stack, with_stack, with_thread}
-use Rattle.rl_defs.specs.Wanted.{top}
-use Rattle.rl_defs.specs.Crossing.{Wish, moved_of}
-use Rattle.rl_defs.specs.Step.{object_in, after_command}
-use Rattle.rl_defs.specs.Machine.Objects.{with_new, without, with_cells_of, overwritten, placed, cells_in}
-use Rattle.rl_defs.specs.Loans.{object_of}
-use Rattle.rl_defs.specs.Machine.Seen.{with_word, with_slot, ended}
-use Rattle.rl_defs.specs.Machine.Frames.{AnswersFrame, AnswersTop, Replies, below_top, popped, with_top, acting, results_in}
-use Rattle.rl_defs.specs.Machine.Calling.{wish, with_fuel}
-use Rattle.rl_defs.specs.Machine.CallRows.{passed_to, numbered, entered, after_return, reloaded, command_done}
-use Rattle.rl_defs.specs.Machine.ObjectRows.{Does, Commanded, with_block, block, instead}
-use Rattle.rl_defs.specs.Machine.Steps.{Row}
+use Rattle.machine_defs.specs.State.{State, StackFrame, Thread, Root, Hung, is_live, stack, with_stack, with_thread}
+use Rattle.machine_defs.specs.State.{top}
+use Rattle.machine_defs.specs.Calling.{Wish}
+use Rattle.machine_defs.specs.Arguments.{moved_of}
+use Rattle.machine_defs.specs.Arguments.{object_of_value}
+use Rattle.machine_defs.specs.Frames.{after_command}
+use Rattle.machine_defs.specs.Objects.{with_new, without, with_cells_of, overwritten, placed, cells_in}
+use Rattle.machine_defs.specs.Loans.{object_of}
+use Rattle.machine_defs.specs.Seen.{with_word, with_slot, ended}
+use Rattle.machine_defs.specs.Frames.{AnswersFrame, AnswersTop, Replies, below_top, popped, with_top, acting, results_in}
+use Rattle.machine_defs.specs.Calling.{wish, with_fuel}
+use Rattle.machine_defs.specs.CallRows.{passed_to, numbered, call_entered, after_return, reloaded, command_done}
+use Rattle.machine_defs.specs.ObjectRows.{Does, Commanded, with_block, block, instead}
+use Rattle.machine_defs.specs.Steps.{Row}
 use Rattle.machine_laws.proofs.Wishes.{wish_as}
 
 abbrev pub IsNew : Entry → Type 0
@@ -47,9 +49,9 @@ abbrev pub IsSave : Entry → Type 0
 IsSave (entry.DevPut t b o) = Unit {0}
 IsSave _ = ⊥
 
--- What holds of two states, one behind the other, for each of the small changes: of a stack, a thread, the next call, the objects, an instance,
+-- What holds of two states, one after the other, for each of the small changes: of a stack, a thread, the next call, the objects, an instance,
 -- a block, or a shadow. Some come with some entries alone.
-pub record Moves (L : Load) (e : Entry) (P : State → State → Type 0) : Type 0 where
+pub record Moves (L : LoadRows) (e : Entry) (P : State → State → Type 0) : Type 0 where
   pub still : (s : State) → P s s
   pub behind : (s m z : State) → P s m → P m z → P s z
   pub frames : (s : State) (t : ℕ) (fs : List StackFrame) → P s (with_stack s t fs)
@@ -68,7 +70,7 @@ pub record Moves (L : Load) (e : Entry) (P : State → State → Type 0) : Type 
   pub device : IsSave e → (s : State) (b : ℕ) (cells : List ℕ) → P s (with_block b cells s)
   pub reload : (s : State) (x left : ℕ) → P s (reloaded L x (length s.instances + 1) left s)
 
-module _ (L : Load) (P : State → State → Type 0) where
+module _ (L : LoadRows) (P : State → State → Type 0) where
   -- the state in which a frame has gone on and its thread was charged
   pub on_moves : (e : Entry) → Moves L e P → (s : State) (t : ℕ) (g : StackFrame) (thread : Thread) → P s (with_top t g (with_thread s t thread))
   on_moves e m s t g thread = m.behind s (with_thread s t thread) (with_top t g (with_thread s t thread)) (m.thread s t thread) (m.frames (with_thread s t thread) t (below_top (stack s t) ++ g ∷ []))
@@ -108,7 +110,7 @@ module _ (L : Load) (P : State → State → Type 0) where
       let w : Owner = owner.Instance i in
       let a : State = with_stack r.charged t (stack r.charged t ++ r.frame ∷ []) in
       let b : State = passed_to w (moved_of args) a in
-      subst (P s) (sym r.becomes) (m.behind s r.charged (entered t c i args r.frame r.charged) paid
+      subst (P s) (sym r.becomes) (m.behind s r.charged (call_entered t c i args r.frame r.charged) paid
       (m.behind r.charged a (numbered c b) (m.frames r.charged t (stack r.charged t ++ r.frame ∷ [])) (m.behind a b (numbered c b) (m.given a w (moved_of args)) (m.number b c))))
   row_moves (entry.Refuse t c why x n args) m s z r =
       let paid = wish_moves (entry.Refuse t c why x n args) m s t _ r.wants in
@@ -119,7 +121,7 @@ module _ (L : Load) (P : State → State → Type 0) where
       let b : State = with_thread a t (with_fuel (r.fuel - 1) r.thread) in
       let d : State = after_return t r.fuel r.thread results s in
       m.behind s a z (m.frames s t (below_top (stack s t))) (m.behind a b z (m.thread a t (with_fuel (r.fuel - 1) r.thread))
-      (m.behind b d z (m.given b (acting a t) (filter_map object_in results)) (reply_moves (entry.Ret t c results) m d t (answer.Back results) z r.replies)))
+      (m.behind b d z (m.given b (acting a t) (filter_map object_of_value results)) (reply_moves (entry.Ret t c results) m d t (answer.Back results) z r.replies)))
   row_moves (entry.Unwound t c) m s z r = m.behind s (popped t s) z (m.frames s t (below_top (stack s t))) (reply_moves (entry.Unwound t c) m (popped t s) t _ z r.replies)
   row_moves (entry.Reload t x i left) m s z r = subst (P s) (sym r.becomes) (subst (λ n. P s (reloaded L x n left s)) (sym r.number) (m.reload s x left))
   row_moves (entry.Again t c x i) m s z r = subst (P s) (sym r.becomes) (m.frames s t (below_top (stack s t) ++ r.frame ∷ []))

@@ -1,18 +1,18 @@
--- Names that are bound: what they hold behind it, and how often.
+-- Names that are bound: what they hold after it, and how often.
 use Rattle.std.proofs.Common.{◌≡◌, ◌≢◌, ℕ, zero, suc, ◌+◌, ◌<◌, ◌⊎◌, List, [], ◌∷◌, length, Option, Some, None, slice_get, slice_set, refl, ap, sym, ◌∙◌, arith, inl, inr}
 use Rattle.std.proofs.lemmas.Bool.{cases_eq}
 use Rattle.std.proofs.lemmas.List.{length-set}
 use Rattle.rl_defs.specs.declared.values.Value.{Value}
-use Rattle.rl_defs.specs.Loans.{count}
-use Rattle.rl_defs.specs.Wanted.{Names, held}
-use Rattle.rl_defs.specs.Step.{bind}
-use Rattle.rl_defs.specs.Machine.History.{objects_in}
+use Rattle.machine_defs.specs.Loans.{count}
+use Rattle.machine_defs.specs.Wants.{Names, name_held}
+use Rattle.machine_defs.specs.Frames.{bind}
+use Rattle.machine_defs.specs.Arguments.{objects_in}
 use Rattle.machine_laws.proofs.NameCounts.{objects_of, share, objects_first, held_set, held_set_same, held_set_other}
 
 -- names of which no two are alike, that are there, and hold nothing
 pub record Unused (ks : List ℕ) (names : Names) : Type 0 where
   pub apart : (i j k : ℕ) → slice_get ks i ≡ Some k → slice_get ks j ≡ Some k → i ≡ j
-  pub none : (i k : ℕ) → slice_get ks i ≡ Some k → held names k ≡ None
+  pub none : (i k : ℕ) → slice_get ks i ≡ Some k → name_held names k ≡ None
   pub room : (i k : ℕ) → slice_get ks i ≡ Some k → k < length names
 
 later_apart : (k : ℕ) (ks : List ℕ) (names : Names) → Unused (k ∷ ks) names → (i l : ℕ) → slice_get ks i ≡ Some l → l ≢ k
@@ -38,17 +38,17 @@ count_bound p (k ∷ ks) [] names unused same = absurd (omega (arith, same))
 count_bound p (k ∷ ks) (v ∷ values) names unused same =
     let deeper = count_bound p ks values (slice_set names k (Some v)) (unused_rest k ks names (Some v) unused) (omega (arith, same)) in
     let here = held_set p names k (Some v) (unused.room zero k refl) in
-    let none : share p (held names k) ≡ 0 = rw (unused.none zero k refl) refl in
+    let none : share p (name_held names k) ≡ 0 = rw (unused.none zero k refl) refl in
     omega (arith, deeper, here, none, objects_first p v values)
 
 -- a name holds what it did, or the value at its own place among those bound
-pub held_bound : (ks : List ℕ) (values : List Value) (names : Names) → Unused ks names → (k : ℕ) (v : Value) → held (bind ks values names) k ≡ Some v → (held names k ≡ Some v) ⊎ ((i : ℕ) × (slice_get ks i ≡ Some k) × (slice_get values i ≡ Some v))
+pub held_bound : (ks : List ℕ) (values : List Value) (names : Names) → Unused ks names → (k : ℕ) (v : Value) → name_held (bind ks values names) k ≡ Some v → (name_held names k ≡ Some v) ⊎ ((i : ℕ) × (slice_get ks i ≡ Some k) × (slice_get values i ≡ Some v))
 held_bound [] values names unused k v is = inl is
 held_bound (j ∷ ks) [] names unused k v is = inl is
 held_bound (j ∷ ks) (w ∷ values) names unused k v is = elim (held_bound ks values (slice_set names j (Some w)) (unused_rest j ks names (Some w) unused) k v is) [
   | inl old ↦ elim (cases_eq k j) [
     | inl same ↦
-        let e : Some w ≡ Some v = sym (held_set_same names j (Some w) (unused.room zero j refl)) ∙ ap (held (slice_set names j (Some w))) (sym same) ∙ old in
+        let e : Some w ≡ Some v = sym (held_set_same names j (Some w) (unused.room zero j refl)) ∙ ap (name_held (slice_set names j (Some w))) (sym same) ∙ old in
         inr (zero, ap Some (sym same), e)
     | inr apart ↦ inl (sym (held_set_other names j k (Some w) apart) ∙ old)
   ]
@@ -56,7 +56,7 @@ held_bound (j ∷ ks) (w ∷ values) names unused k v is = elim (held_bound ks v
 ]
 
 -- other names hold nothing still
-pub bound_none : (ks : List ℕ) (values : List Value) (names : Names) (k : ℕ) → held names k ≡ None → ((i : ℕ) → slice_get ks i ≡ Some k → ⊥) → held (bind ks values names) k ≡ None
+pub bound_none : (ks : List ℕ) (values : List Value) (names : Names) (k : ℕ) → name_held names k ≡ None → ((i : ℕ) → slice_get ks i ≡ Some k → ⊥) → name_held (bind ks values names) k ≡ None
 bound_none [] values names k none apart = none
 bound_none (j ∷ ks) [] names k none apart = none
 bound_none (j ∷ ks) (w ∷ values) names k none apart = bound_none ks values (slice_set names j (Some w)) k (held_set_other names j k (Some w) (λ e. apart zero (ap Some (sym e))) ∙ none) (λ i is. apart (suc i) is)

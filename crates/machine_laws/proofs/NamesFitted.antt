@@ -1,21 +1,22 @@
--- Behind each step script names hold what suits, and clients with frames stand at the call of the lowest of them.
+-- After each step script names hold what suits, and clients with frames stand at the call of the lowest of them.
 use Rattle.std.proofs.Common.{◌≡◌, ◌≢◌, ℕ, true, List, Some, refl, ap, sym, subst, ◌∙◌, arith, inl, inr}
 use Rattle.std.proofs.lemmas.Bool.{cases_eq, eq-eqb, ne_eqb}
-use Rattle.rl_defs.specs.declared.values.Owner.{Owner}
-use Rattle.rl_defs.specs.declared.entry.Entry.{Entry}
-use Rattle.rl_defs.specs.declared.entry.Entry.TheVariants as entry
-use Rattle.rl_defs.specs.declared.load.Load.{Load}
-use Rattle.rl_defs.specs.State.{State, Object, Thread, row}
-use Rattle.rl_defs.specs.Loans.{object_of, sweep}
-use Rattle.rl_defs.specs.Texts.{thread_of}
-use Rattle.rl_defs.specs.Crossing.{is_undone}
-use Rattle.rl_defs.specs.Machine.NativeFits.{types_of, struct_or_none, is_target, trait_if}
-use Rattle.rl_defs.specs.Machine.Steps.{Row}
+use Rattle.machine_defs.specs.declared.values.Owner.{Owner}
+use Rattle.machine_defs.specs.declared.entry.Entry.{Entry}
+use Rattle.machine_defs.specs.declared.entry.Entry.TheVariants as entry
+use Rattle.rl_defs.specs.declared.load.LoadRows.{LoadRows}
+use Rattle.machine_defs.specs.State.{State, Object, Thread}
+use Rattle.rl_defs.specs.Rows.{row}
+use Rattle.machine_defs.specs.Loans.{object_of, sweep}
+use Rattle.machine_defs.specs.Entries.{thread_of}
+use Rattle.machine_defs.specs.Calling.{is_undone}
+use Rattle.machine_defs.specs.Seen.{types_of}
+use Rattle.rl_defs.specs.Rows.{is_target, trait_if}
+use Rattle.machine_defs.specs.Steps.{Row}
 use Rattle.machine_laws.specs.LedgerOf.{ledger_of}
 use Rattle.machine_laws.specs.LedgerSound.{Owned}
 use Rattle.machine_laws.specs.Shape.{Laid}
-use Rattle.machine_laws.specs.Plans.{Plans}
-use Rattle.machine_laws.specs.Registers.{HasTables}
+use Rattle.machine_laws.specs.Plans.{Plans, HasTables}
 use Rattle.machine_laws.specs.Fitting.{NamesFit, Fitting}
 use Rattle.machine_laws.specs.AtCall.{AtCall}
 use Rattle.machine_laws.proofs.Objects.{found_below}
@@ -31,9 +32,10 @@ use Rattle.machine_laws.proofs.AtCalls.{at_calls_kept, at_call_swept}
 use Rattle.machine_laws.proofs.Renaming.{Renamed, names_renamed, renamed_same}
 use Rattle.machine_laws.proofs.Going.{Goes}
 use Rattle.machine_laws.proofs.GoingRows.{types_behind, row_goes}
+use Rattle.machine_laws.proofs.Parts.{struct_or_none}
 
-module _ (L : Load) (s : State) (laid : Laid L s) where
-  -- objects that were there are of the same structs in the types behind an entry
+module _ (L : LoadRows) (s : State) (laid : Laid L s) where
+  -- objects that were there are of the same structs in the types after an entry
   types_before : (e : Entry) (z : State) → Row L s e z → (q : ℕ) → IsIn s q → (types_behind L s e).struct_of q ≡ (types_of L s).struct_of q
   types_before (entry.New t w o ty values) z r q there =
       let lt = (found_below 0 s.next_object q s.objects there.0 laid.objects there.1).1 in
@@ -57,23 +59,23 @@ module _ (L : Load) (s : State) (laid : Laid L s) where
         | inr new ↦ let is : q ≡ o = new.0 ∙ sym r.number in rw (eq-eqb q o is) (ap (λ (x : Object). x.ty) new.1)
       ]
 
-  -- and objects that are there behind it and its sweep are of the structs there
+  -- and objects that are there after it and its sweep are of the structs there
   types_after : (e : Entry) (made : State) → Row L s e made → (q : ℕ) → IsIn (sweep made) q → (types_of L (sweep made)).struct_of q ≡ (types_behind L s e).struct_of q
   types_after (entry.New t w o ty values) made r q there = new_types t w o ty values made r q there
   types_after (entry.Free o) made r q there = absurd r
   types_after other made r q there = old_types other made (λ no'. no') r q there
 
 -- no type of a target changes
-traits_behind : (L : Load) (s : State) (e : Entry) (x : ℕ) → (types_behind L s e).trait_of x ≡ trait_if L (is_target L x) x
+traits_behind : (L : LoadRows) (s : State) (e : Entry) (x : ℕ) → (types_behind L s e).trait_of x ≡ trait_if L (is_target L x) x
 traits_behind L s (entry.New t w o ty values) x = refl
 traits_behind L s e x = refl
 
-module _ (L : Load) (s : State) (plans : Plans L) (tables : HasTables L.tables) (laid : Laid L s) (owned : Owned L (ledger_of L s)) (fits : Fitting L s) (at : (u : ℕ) → AtCall L s u)
+module _ (L : LoadRows) (s : State) (plans : Plans L) (tables : HasTables L.tables) (laid : Laid L s) (owned : Owned L (ledger_of L s)) (fits : Fitting L s) (at : (u : ℕ) → AtCall L s u)
     (e : Entry) (made : State) (ready : is_undone (row s.threads (thread_of e)) ≡ true) (makes : Row L s e made) where
   goes : Goes L s made (thread_of e) (types_behind L s e)
   goes = row_goes L s plans tables laid owned fits at e made ready makes
 
-  -- the names of each client fit behind a row and its sweep
+  -- the names of each client fit after a row and its sweep
   pub names_fit : Owned L (ledger_of L (sweep made)) → (u : ℕ) (thread : Thread) → row (sweep made).threads u ≡ Some thread → NamesFit L (sweep made) u thread
   names_fit owned' u thread of = elim (cases_eq u (thread_of e)) [
     | inl same ↦

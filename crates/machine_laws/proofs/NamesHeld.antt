@@ -1,21 +1,23 @@
--- What a client's own frame holds behind what its script does, in the words of the ledger.
+-- What a client's own frame holds after what its script does, in the words of the ledger.
 use Rattle.std.proofs.Common.{◌≡◌, ℕ, ◌+◌, ◌<◌, ◌==◌, true, false, ◌||◌, List, [], ◌∷◌, length, Option, Some, None, slice_get, slice_set, refl, ap, subst, ◌∙◌, arith, inl, inr}
 use Rattle.std.proofs.lemmas.Bool.{cases_Bool, eqb-true}
 use Rattle.rl_defs.specs.declared.values.Value.{Value}
 use Rattle.rl_defs.specs.declared.values.Value.TheVariants as value
-use Rattle.rl_defs.specs.declared.load.Load.{Load}
+use Rattle.rl_defs.specs.declared.load.LoadRows.{LoadRows}
 use Rattle.rl_defs.specs.declared.load.Command.{Command}
 use Rattle.rl_defs.specs.declared.load.Command.TheVariants as command
-use Rattle.rl_defs.specs.State.{State, Thread, Hung, row, bound_by}
-use Rattle.rl_defs.specs.Loans.{count, object_of}
-use Rattle.rl_defs.specs.Wanted.{commands_of, held}
-use Rattle.rl_defs.specs.Crossing.{has}
-use Rattle.rl_defs.specs.Step.{names_of, after_command}
-use Rattle.rl_defs.specs.Machine.Objects.{hung_in, cells_in, cell_value, is_zero, listed, listed_from, shown}
-use Rattle.rl_defs.specs.Machine.CallRows.{command_done}
-use Rattle.rl_defs.specs.Machine.ObjectRows.{Gives, ClientMakes, ClientDrops, Shows, without_name}
-use Rattle.rl_defs.specs.Machine.History.{objects_in}
-use Rattle.valid_loads.specs.ScriptFacts.{ScriptsStand}
+use Rattle.machine_defs.specs.State.{State, Thread, Hung}
+use Rattle.rl_defs.specs.Rows.{row, bound_by}
+use Rattle.machine_defs.specs.Loans.{count, object_of}
+use Rattle.rl_defs.specs.Rows.{commands_of}
+use Rattle.machine_defs.specs.Wants.{name_held}
+use Rattle.machine_defs.specs.Arguments.{has}
+use Rattle.machine_defs.specs.Frames.{names_of, after_command}
+use Rattle.machine_defs.specs.Objects.{hung_in, cells_in, cell_value, is_zero, listed, listed_from, shown}
+use Rattle.machine_defs.specs.CallRows.{command_done}
+use Rattle.machine_defs.specs.ObjectRows.{Gives, ClientMakes, ClientDrops, Shows, without_name}
+use Rattle.machine_defs.specs.Arguments.{objects_in}
+use Rattle.rl_defs.specs.Valid.{Valid}
 use Rattle.machine_laws.specs.LedgerOf.{names_held, seat_of}
 use Rattle.machine_laws.specs.LedgerRows.{Exchanged}
 use Rattle.machine_laws.specs.Shape.{Laid}
@@ -56,13 +58,13 @@ listed_hung s o at (n ∷ cells) v is =
     cell (Some q) w e shows = let same : q ≡ w = cc in e ∙ ap Some same
 
 -- what `show` lists of objects hangs in the object
-pub shown_hung : (L : Load) (s : State) (o : ℕ) → Laid L s → (v : ℕ) → has (objects_in (shown s o)) v ≡ true → (k : ℕ) × (seats s v ≡ Some (Hung o k))
+pub shown_hung : (L : LoadRows) (s : State) (o : ℕ) → Laid L s → (v : ℕ) → has (objects_in (shown s o)) v ≡ true → (k : ℕ) × (seats s v ≡ Some (Hung o k))
 shown_hung L s o laid v is =
     let r = listed_hung s o 0 (cells_in (object_of s o)) v is in
     let x = hung_there L s o r.0 v laid r.1 in
     (r.0, ap seat_of x.1 ∙ ap Some x.2)
 
-module _ (L : Load) (s z : State) (t : ℕ) (scripts : ScriptsStand L) (fits : Fitting L s) where
+module _ (L : LoadRows) (s z : State) (t : ℕ) (scripts : Valid L) (fits : Fitting L s) where
   -- the names of the command at the thread's place hold its results
   pub bound_held : (thread : Thread) → NamesFit L s t thread → (c : Command) → slice_get (commands_of (row L.clients t)) thread.place ≡ Some c → (values : List Value) → length (bound_by c) ≡ length values
       → Exchanged (names_held (Some thread)) [] (objects_in values) (names_held (Some (after_command L t thread values)))
@@ -84,7 +86,7 @@ module _ (L : Load) (s z : State) (t : ℕ) (scripts : ScriptsStand L) (fits : F
   pub drops_held : (o : ℕ) (d : ClientDrops L s t o z) → Exchanged (names_held (Some d.thread)) (o ∷ []) [] (names_held (Some (command_done L t [] (without_name d.name d.thread))))
   drops_held o d p =
       let set = held_set p d.thread.names d.name None (held_within d.thread.names d.name (value.Obj o) d.object) in
-      let one : share p (held d.thread.names d.name) ≡ count p (o ∷ []) = rw d.object refl in
+      let one : share p (name_held d.thread.names d.name) ≡ count p (o ∷ []) = rw d.object refl in
       rw (bind_none (names_of (slice_get (commands_of (row L.clients t)) d.thread.place)) (slice_set d.thread.names d.name None)) (omega (arith, set, one))
 
   -- `show`

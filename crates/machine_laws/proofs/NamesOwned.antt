@@ -1,11 +1,12 @@
 -- What script names hold is a root of their client, and is there.
 use Rattle.std.proofs.Common.{◌≡◌, ℕ, ◌+◌, ◌<◌, ◌≤◌, cond, [], ◌∷◌, length, Option, Some, None, refl, ap, sym, ◌∙◌, arith, inl, inr}
 use Rattle.std.proofs.lemmas.Bool.{cases_Bool}
-use Rattle.rl_defs.specs.declared.values.Owner.{Owner}
-use Rattle.rl_defs.specs.declared.values.Owner.TheVariants as owner
-use Rattle.rl_defs.specs.declared.load.Load.{Load}
-use Rattle.rl_defs.specs.State.{State, Thread, Placement, Root, Hung, row, stack}
-use Rattle.rl_defs.specs.Loans.{count}
+use Rattle.machine_defs.specs.declared.values.Owner.{Owner}
+use Rattle.machine_defs.specs.declared.values.Owner.TheVariants as owner
+use Rattle.rl_defs.specs.declared.load.LoadRows.{LoadRows}
+use Rattle.machine_defs.specs.State.{State, Thread, Placement, Root, Hung, stack}
+use Rattle.rl_defs.specs.Rows.{row}
+use Rattle.machine_defs.specs.Loans.{count}
 use Rattle.machine_laws.specs.Ledger.{same_owner}
 use Rattle.machine_laws.specs.LedgerOf.{ledger_of}
 use Rattle.machine_laws.specs.LedgerSound.{own_in, is_of, Owned}
@@ -17,7 +18,7 @@ use Rattle.machine_laws.proofs.NameCounts.{objects_of}
 use Rattle.machine_laws.proofs.Sums.{sum_least}
 use Rattle.machine_laws.proofs.Owners.{same_is, same_self}
 
-module _ (L : Load) (s : State) (laid : Laid L s) (owned : Owned L (ledger_of L s)) (t : ℕ) (thread : Thread) (of : row s.threads t ≡ Some thread) (o : ℕ) (some : 0 < count o (objects_of thread.names)) where
+module _ (L : LoadRows) (s : State) (laid : Laid L s) (owned : Owned L (ledger_of L s)) (t : ℕ) (thread : Thread) (of : row s.threads t ≡ Some thread) (o : ℕ) (some : 0 < count o (objects_of thread.names)) where
   pub name_root : seats s o ≡ Some (Root (owner.Client t))
   name_root =
       let w = client_within L s t thread laid of in

@@ -1,8 +1,8 @@
 -- Not all clients wait: who waits does so for a serial instance of an ever lower rank, so one of them does not wait.
 use Rattle.std.proofs.Common.{◌≡◌, ℕ, zero, suc, ◌<◌, ◌≤◌, true, List, [], ◌∷◌, Option, Some, None, refl, sym, arith, inl, inr, length}
 use Rattle.std.proofs.lemmas.Bool.{cases_Bool}
-use Rattle.rl_defs.specs.declared.values.Owner.TheVariants as owner
-use Rattle.rl_defs.specs.declared.load.Load.{Load}
+use Rattle.machine_defs.specs.declared.values.Owner.TheVariants as owner
+use Rattle.rl_defs.specs.declared.load.LoadRows.{LoadRows}
 use Rattle.rl_defs.specs.Domains.{is_serial}
 use Rattle.machine_laws.specs.Ledger.{same_owner, LedgerFrame, Ledger}
 use Rattle.machine_laws.specs.LedgerRows.{enters, IsBelow}
@@ -10,7 +10,7 @@ use Rattle.machine_laws.proofs.Owners.{same_is}
 use Rattle.machine_laws.proofs.Ranks.{is_entered, frame_entered}
 
 -- Each client that waits, waits for a live serial instance whose rank is below those of its own frames, and in which some client has a frame.
-module _ (L : Load) (s : Ledger) (waits : ℕ → Option ℕ)
+module _ (L : LoadRows) (s : Ledger) (waits : ℕ → Option ℕ)
     (lives : (t i : ℕ) → waits t ≡ Some i → (s.live i ≡ true) × (is_serial L (s.loads i) ≡ true))
     (ranks : (t i : ℕ) → waits t ≡ Some i → IsBelow L s (s.loads i) (s.stack t))
     (holder : (t i : ℕ) → waits t ≡ Some i → (u : ℕ) × (0 < u) × (u ≤ length L.clients) × enters i (s.stack u)) where

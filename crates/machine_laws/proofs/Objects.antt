@@ -1,7 +1,7 @@
 -- Objects by their numbers: what is found in a list of objects that rise.
 use Rattle.std.proofs.Common.{◌≡◌, ◌≢◌, ℕ, suc, ◌<◌, ◌≤◌, ◌==◌, Bool, true, false, cond, inl, inr, List, [], ◌∷◌, ◌++◌, map, filter, find, Option, Some, None, refl, ap, ◌∙◌, arith}
 use Rattle.std.proofs.lemmas.Bool.{cases_Bool, ne_eqb, eqb-true}
-use Rattle.rl_defs.specs.State.{Object}
+use Rattle.machine_defs.specs.State.{Object}
 use Rattle.machine_laws.specs.Shape.{Rises}
 
 -- the object of a number in a list

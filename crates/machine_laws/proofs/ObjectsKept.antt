@@ -1,29 +1,32 @@
--- The objects behind each row have cells that fit.
+-- The objects after each row have cells that fit.
 use Rattle.std.proofs.Common.{◌≡◌, ℕ, ◌-◌, ◌<◌, ◌==◌, ◌⊎◌, inl, inr, true, if◌then◌else◌, List, [], length, Option, Some, None, slice_get, refl, ap, sym, subst, ◌∙◌, arith}
 use Rattle.std.proofs.lemmas.Bool.{cases_Bool, eqb-true}
 use Rattle.std.proofs.lemmas.Option.{slice_get-get_or}
-use Rattle.rl_defs.specs.declared.values.Owner.{Owner}
-use Rattle.rl_defs.specs.declared.entry.Entry.{Entry}
-use Rattle.rl_defs.specs.declared.entry.Entry.TheVariants as entry
-use Rattle.rl_defs.specs.declared.frame.Action.{Action}
-use Rattle.rl_defs.specs.declared.frame.Answer.{Answer}
-use Rattle.rl_defs.specs.declared.load.Load.{Load}
+use Rattle.machine_defs.specs.declared.values.Owner.{Owner}
+use Rattle.machine_defs.specs.declared.entry.Entry.{Entry}
+use Rattle.machine_defs.specs.declared.entry.Entry.TheVariants as entry
+use Rattle.machine_defs.specs.declared.frame.Action.{Action}
+use Rattle.machine_defs.specs.declared.frame.Answer.{Answer}
+use Rattle.rl_defs.specs.declared.load.LoadRows.{LoadRows}
 use Rattle.rl_defs.specs.declared.load.Command.{Command}
 use Rattle.rl_defs.specs.declared.load.Command.TheVariants as command
 use Rattle.rl_defs.specs.CodeNames.{cells_of}
-use Rattle.rl_defs.specs.State.{State, StackFrame, Thread, Object, Hung, row}
-use Rattle.rl_defs.specs.Loans.{object_of}
-use Rattle.rl_defs.specs.Wanted.{Commands, commands_of, by_command, can_do}
-use Rattle.rl_defs.specs.Machine.Objects.{with_cells, change_object, overwritten}
-use Rattle.rl_defs.specs.Machine.NativeFits.{numbers_suit}
-use Rattle.rl_defs.specs.Machine.Calling.{with_fuel}
-use Rattle.rl_defs.specs.Machine.ObjectRows.{Does, Gives, ClientMakes, block, instead}
-use Rattle.rl_defs.specs.Machine.Sound.{cells_fit}
-use Rattle.rl_defs.specs.Machine.Steps.{Row}
-use Rattle.valid_loads.specs.ScriptFacts.{CommandFits, ScriptsStand}
+use Rattle.machine_defs.specs.State.{State, StackFrame, Thread, Object, Hung}
+use Rattle.rl_defs.specs.Rows.{row}
+use Rattle.machine_defs.specs.Loans.{object_of}
+use Rattle.machine_defs.specs.Wants.{Commands, by_command, can_do}
+use Rattle.rl_defs.specs.Rows.{commands_of}
+use Rattle.machine_defs.specs.Objects.{with_cells, change_object, overwritten}
+use Rattle.rl_defs.specs.Widths.{numbers_suit}
+use Rattle.machine_defs.specs.Calling.{with_fuel}
+use Rattle.machine_defs.specs.ObjectRows.{Does, Gives, ClientMakes, block, instead}
+use Rattle.machine_defs.specs.Sound.{cells_fit}
+use Rattle.machine_defs.specs.Steps.{Row}
+use Rattle.rl_defs.specs.ValidScripts.{CommandFits}
+use Rattle.rl_defs.specs.Valid.{Valid}
+use Rattle.rl_defs.proofs.ValidFacts.{command_fits}
 use Rattle.machine_laws.specs.Shape.{Laid}
-use Rattle.machine_laws.specs.Plans.{Plans}
-use Rattle.machine_laws.specs.Registers.{HasTables}
+use Rattle.machine_laws.specs.Plans.{Plans, HasTables}
 use Rattle.machine_laws.specs.Fitting.{Fitting}
 use Rattle.machine_laws.proofs.Objects.{found, found_map, found_number, changed}
 use Rattle.machine_laws.proofs.FrameRows.{gone_on}
@@ -36,7 +39,7 @@ use Rattle.machine_laws.proofs.CellsFit.{fresh_cells, written_cells, block_cells
 use Rattle.machine_laws.proofs.FrameWrites.{PutsFit, puts_fit}
 
 -- what an action that is no trap puts somewhere fits there
-pub does_fit : {L : Load} {s : State} {t i : ℕ} {act : Action} {a : Answer} {change : State → State} {z : State} → Plans L → HasTables L.tables → Laid L s → Fitting L s → NotTrap act → Does L s t i act a change z → PutsFit L s i act
+pub does_fit : {L : LoadRows} {s : State} {t i : ℕ} {act : Action} {a : Answer} {change : State → State} {z : State} → Plans L → HasTables L.tables → Laid L s → Fitting L s → NotTrap act → Does L s t i act a change z → PutsFit L s i act
 does_fit {L = L} {s = s} {t = t} {i = i} {act = act} plans tables laid fits no_trap d =
     let doing = acts_as L s t act d.fuel d.frame d.wants in
     let inside : doing.f.instance ≡ i = sym (ap (λ (g : StackFrame). g.instance) doing.same) ∙ sym d.inside in
@@ -70,7 +73,7 @@ changed_as s o g keeps q y is = go (object_of s q) refl
         ]
 
 -- the cells of an object fit
-abbrev pub IsFilled : Load → Object → Type 0
+abbrev pub IsFilled : LoadRows → Object → Type 0
 IsFilled L x = cells_fit (cells_of L.tables x.ty) x.cells ≡ true
 
 -- what an object without new cells carries, and what one carries that isn't hung
@@ -100,12 +103,12 @@ command_here s thread (Some d) c e = elim (cases_Bool (can_do s thread.names d))
   | inr b ↦ absurd (let e' = rw b at e in cc)
 ]
 
-values_suit : (L : Load) (t p : ℕ) (c : Command) (ty : ℕ) (values : List ℕ) → Gives c ty values → CommandFits L t p c → numbers_suit (cells_of L.tables ty) values ≡ true
+values_suit : (L : LoadRows) (t p : ℕ) (c : Command) (ty : ℕ) (values : List ℕ) → Gives c ty values → CommandFits L t p c → numbers_suit (cells_of L.tables ty) values ≡ true
 values_suit L t p (command.Let name of given) ty values gives fits = rw (gives.0, gives.1) fits.1
 values_suit L t p (command.Text name of given) ty values gives fits = rw (gives.0, gives.1) fits.1
 values_suit L t p other ty values gives fits = absurd gives
 
-module _ (L : Load) (s : State) (plans : Plans L) (tables : HasTables L.tables) (scripts : ScriptsStand L) (laid : Laid L s) (fits : Fitting L s) where
+module _ (L : LoadRows) (s : State) (plans : Plans L) (tables : HasTables L.tables) (scripts : Valid L) (laid : Laid L s) (fits : Fitting L s) where
   filled_before : (o : ℕ) (x : Object) → object_of s o ≡ Some x → IsFilled L x
   filled_before o x is = (fits.objects o x is).numbers
 
@@ -121,7 +124,7 @@ module _ (L : Load) (s : State) (plans : Plans L) (tables : HasTables L.tables) 
   values_of t w o ty values z c =
       let doing = commands_as L s t (Commands c.next) tt c.does.wants in
       let here = command_here s doing.thread (slice_get (commands_of (row L.clients t)) doing.thread.place) c.next doing.by in
-      values_suit L t doing.thread.place c.next ty values c.gives (scripts.fits t doing.thread.place c.next here)
+      values_suit L t doing.thread.place c.next ty values c.gives (command_fits L scripts t doing.thread.place c.next here)
 
   filled_new : (t : ℕ) (w : Owner) (o ty : ℕ) (values : List ℕ) (z : State) → Row L s (entry.New t w o ty values) z → (q : ℕ) (y : Object) → object_of z q ≡ Some y → IsFilled L y
   filled_new t w o ty values z makes q y is = elim (new_stays L s t w o ty values z makes q y is) [

@@ -1,9 +1,9 @@
 -- A step that changes one stack, seats and slots.
 use Rattle.std.proofs.Common.{◌≡◌, ℕ, ◌+◌, ◌<◌, ◌≤◌, Bool, true, cond, ◌⊎◌, List, Option, Some, None, refl, sym, ◌∙◌, arith, inl, inr}
 use Rattle.std.proofs.lemmas.Bool.{cases_eq}
-use Rattle.rl_defs.specs.declared.values.Owner.{Owner}
-use Rattle.rl_defs.specs.State.{Placement, Root, Hung, stack}
-use Rattle.rl_defs.specs.Machine.Seen.{slots}
+use Rattle.machine_defs.specs.declared.values.Owner.{Owner}
+use Rattle.machine_defs.specs.State.{Placement, Root, Hung, stack}
+use Rattle.machine_defs.specs.Seen.{slots}
 use Rattle.machine_laws.specs.Ledger.{LedgerFrame, at, alive, lent_in, loans_in}
 use Rattle.machine_laws.specs.LedgerSound.{own_in, slots_held, is_of, Covered, OwnedIn}
 use Rattle.machine_laws.proofs.Sums.{sum_at, sum_least}

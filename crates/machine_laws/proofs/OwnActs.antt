@@ -5,11 +5,11 @@ use Rattle.std.specs.List.{slice_index_or, list_all, list_any, cons_option}
 use Rattle.std.proofs.lemmas.Bool.{cases_Bool, cases_lt, eqb-true, eq-eqb, ne_eqb, not-true, or_right}
 use Rattle.rl_defs.specs.declared.values.Value.{Value}
 use Rattle.rl_defs.specs.declared.values.Value.TheVariants as value
-use Rattle.rl_defs.specs.declared.values.Arg.{Arg}
-use Rattle.rl_defs.specs.declared.values.Cause.{Cause}
-use Rattle.rl_defs.specs.declared.values.Cause.TheVariants as cause
-use Rattle.rl_defs.specs.declared.frame.Action.{Action}
-use Rattle.rl_defs.specs.declared.frame.Action.TheVariants as action
+use Rattle.machine_defs.specs.declared.values.Arg.{Arg}
+use Rattle.machine_defs.specs.declared.values.Cause.{Cause}
+use Rattle.machine_defs.specs.declared.values.Cause.TheVariants as cause
+use Rattle.machine_defs.specs.declared.frame.Action.{Action}
+use Rattle.machine_defs.specs.declared.frame.Action.TheVariants as action
 use Rattle.rl_defs.specs.declared.code.Register.{Register}
 use Rattle.rl_defs.specs.declared.code.RegKind.{RegKind}
 use Rattle.rl_defs.specs.declared.code.RegKind.TheVariants as held
@@ -20,29 +20,35 @@ use Rattle.rl_defs.specs.declared.code.Instr.TheVariants as instr
 use Rattle.rl_defs.specs.declared.code.DomainLine.TheVariants as line
 use Rattle.rl_defs.specs.declared.tables.Kind.{Kind}
 use Rattle.rl_defs.specs.declared.tables.Tables.{Tables}
-use Rattle.rl_defs.specs.Sight.{Sight}
+use Rattle.machine_defs.specs.Sight.{Sight}
 use Rattle.rl_defs.specs.DomainValue.{Domain}
-use Rattle.rl_defs.specs.Loans.{count}
-use Rattle.rl_defs.specs.Crossing.{has, moved_of, lent_of}
-use Rattle.rl_defs.specs.Machine.History.{objects_in}
-use Rattle.rl_defs.specs.Machine.Sound.{object_held}
+use Rattle.machine_defs.specs.Loans.{count}
+use Rattle.machine_defs.specs.Arguments.{has, moved_of, lent_of}
+use Rattle.machine_defs.specs.Arguments.{objects_in}
+use Rattle.machine_defs.specs.Sound.{object_held}
 use Rattle.rl_defs.specs.CodeKinds.{Kinds, kinds_at, kind_in, is_own, Number, Owned, Object, Target, read_of_arg, leave_all, passed, moved, left, hung_at}
-use Rattle.rl_defs.specs.CodeRules.{meets, is_met, reads_are_met, operands_suit, owning, is_among, names_cell, suits_cell, lent as lent_registers, moves_once, moves_or_lends, leaves_nothing, owns_nothing, object_struct}
-use Rattle.rl_defs.specs.CodeFits.{KeepsRules, Typing, fits_kind, FitsStand, FitsWaiting, given_up, all_given_up}
-use Rattle.rl_defs.specs.CodeLaws.{StandsAt}
-use Rattle.rl_defs.specs.Instructions.{Registers, value_in, object, object_in, number_in, given_by, passed_value, result_in, cell_kind, Outcome, Works, Jumps, Would, number_or_trap, unless_trap, setting, calculate, meaning, work, Stand}
-use Rattle.rl_defs.proofs.CodeRegisters.{and_left, and_right, Fine, all_given, give_all_fine}
-use Rattle.rl_defs.proofs.CodeSafe.{work_is, finds}
-use Rattle.rl_defs.proofs.CodeStands.{keeps_at}
-use Rattle.rl_defs.proofs.CodeAnswers.{gives_up}
-use Rattle.rl_defs.proofs.CodeWidths.{length-kinds_at}
-use Rattle.machine_laws.specs.Registers.{own, Parted, HasTables, given_away, used, shown}
+use Rattle.rl_defs.specs.CodeRules.{meets, is_met, reads_are_met, operands_suit, owning, is_among, has_cell, suits_cell, lent as lent_registers, moves_once, moves_or_lends, leaves_nothing, owns_nothing}
+use Rattle.rl_defs.specs.CodeRules.{KeepsRules}
+use Rattle.rl_defs.specs.Registers.{Typing, fits_kind}
+use Rattle.machine_defs.specs.CodeFits.{FitsStand, FitsWaiting}
+use Rattle.machine_defs.specs.Instructions.{given_up, all_given_up}
+use Rattle.machine_defs.specs.CodeLaws.{StandsAt}
+use Rattle.rl_defs.specs.Registers.{Registers, value_in, Stand}
+use Rattle.machine_defs.specs.Instructions.{object, object_in, number_in, given_by, passed_value, result_in, struct_in, cell_kind, Outcome, Works, Jumps, Would, number_or_trap, unless_trap, setting, calculate, meaning, work}
+use Rattle.machine_defs.proofs.CodeRegisters.{and_left, and_right, Fine, all_given, give_all_fine}
+use Rattle.machine_defs.proofs.CodeSafe.{work_is, finds, owned_is as owned_own}
+use Rattle.machine_defs.proofs.CodeStands.{keeps_at}
+use Rattle.machine_defs.proofs.CodeAnswers.{gives_up, moved_given}
+use Rattle.machine_defs.proofs.CodeWidths.{length-kinds_at}
+use Rattle.rl_defs.proofs.ValidFacts.{hangs_in_none}
+use Rattle.machine_laws.specs.Plans.{HasTables}
+use Rattle.machine_laws.specs.Registers.{own, Parted, given_away, used, shown}
 use Rattle.machine_laws.proofs.OwnCounts.{weight, own_least, own_none, own_unlent}
 use Rattle.machine_laws.proofs.OwnMarks.{Marked, mark, marked_of, parted_of, spare_in, Owned as IsOwned, owned_in, owned_weight}
 use Rattle.machine_laws.proofs.OwnRules.{keeps_own}
 use Rattle.machine_laws.proofs.OwnHeads.{none_own}
-use Rattle.machine_laws.proofs.OwnWork.{owned_own, met_at}
-use Rattle.machine_laws.proofs.OwnGiving.{objects_of, moved_objects, result_objects, others_keep, marks_given, give_counts, moved_given, moved_distinct, owning_here, owning_rest}
+use Rattle.machine_laws.proofs.OwnWork.{met_at}
+use Rattle.machine_laws.proofs.OwnGiving.{objects_of, moved_objects, result_objects, others_keep, marks_given, give_counts, moved_distinct, owning_here, owning_rest}
 
 -- a return leaves nothing
 abbrev pub is_return : Action → Bool
@@ -73,7 +79,7 @@ record Knows (types : Typing) (loans : List ℕ) (d : Domain) (n : ℕ) (kinds :
   marked : Marked loans kinds regs
   met : reads_are_met kinds i ≡ true
   suits : operands_suit d n kinds i ≡ true
-  cell : names_cell d kinds i ≡ true
+  cell : has_cell d kinds (line.Code i) ≡ true
   once : moves_once kinds (line.Code i) ≡ true
   apart : moves_or_lends kinds (line.Code i) ≡ true
   leaves : leaves_nothing kinds (line.Code i) ≡ true
@@ -147,7 +153,7 @@ quiet lent regs act g u s n = record {
 -- no object hangs in one of its own struct
 hangs_self : (tables : Tables) (s place : ℕ) (h : Option ℕ) → HasTables tables → hung_at tables (held.Own s) place ≡ h → is_some h ≡ true → suits_cell h (held.Own s) ≡ true → ⊥
 hangs_self tables s place None has e some suits = cc
-hangs_self tables s place (Some t) has e some suits = has.cells s place (e ∙ ap (λ x. Some x) (eqb-true t s suits))
+hangs_self tables s place (Some t) has e some suits = hangs_in_none tables has s place (e ∙ ap (λ x. Some x) (eqb-true t s suits))
 
 hang_kinds : (tables : Tables) (place : ℕ) (k w : RegKind) → HasTables tables → meets Owned k ≡ true → is_some (hung_at tables k place) ≡ true → suits_cell (hung_at tables k place) w ≡ true → k ≡ w → ⊥
 hang_kinds tables place (held.Own s) w has m some suits e = hangs_self tables s place (hung_at tables (held.Own s) place) has refl some (ap (suits_cell (hung_at tables (held.Own s) place)) e ∙ suits)
@@ -205,7 +211,7 @@ returned types lent kinds regs results p fine marked given leaves =
     spare_in types lent (leave_all results kinds) waiting p r (give_all_fine types results kinds regs fine given).fits (marks_given lent results kinds regs marked) (none_own (leave_all results kinds) r leaves))
 
 -- each instruction
-pays : (types : Typing) (lent : List ℕ) (d : Domain) (n : ℕ) (kinds : Kinds) (sight : Sight) (live : ℕ) (regs : Registers) (i : Instr) → Knows types lent d n kinds regs i → PaysWhen lent regs (all_given_up (moved i) regs) (meaning d n kinds sight live regs i)
+pays : (types : Typing) (lent : List ℕ) (d : Domain) (n : ℕ) (kinds : Kinds) (sight : Sight) (live : ℕ) (regs : Registers) (i : Instr) → Knows types lent d n kinds regs i → PaysWhen lent regs (all_given_up (moved i) regs) (meaning d n sight live regs i)
 pays types lent d n kinds sight live regs (instr.Math o a b c) knows = trap_number lent regs regs regs a cause.Divide (calculate o (number_in regs b) (number_in regs c))
 pays types lent d n kinds sight live regs (instr.Jz a label) knows = jz_pays lent regs regs regs (number_in regs a == 0)
 pays types lent d n kinds sight live regs (instr.Get a o i) knows = trap_number lent regs regs regs a cause.Bounds _
@@ -221,7 +227,7 @@ pays types lent d n kinds sight live regs (instr.Drop a) knows =
     }
 pays types lent d n kinds sight live regs (instr.Set o i v) knows =
     let here = owned_met types lent kinds regs o knows.fine knows.marked (and_left (meets Owned (kind_in kinds o)) (meets Number (kind_in kinds i) && (meets Number (kind_in kinds v) && true)) knows.met) in
-    set_pays lent regs regs (sight.cell (object_in regs o) (number_in regs i)) (cell_kind d (object_struct (kind_in kinds o)) (number_in regs i)) (object_in regs o) (number_in regs i) (number_in regs v) (record {
+    set_pays lent regs regs (sight.cell (object_in regs o) (number_in regs i)) (cell_kind d.tables (struct_in sight regs o) (number_in regs i)) (object_in regs o) (number_in regs i) (number_in regs v) (record {
       gone = λ p. omega arith;
       uses = λ p some. still_own lent regs regs o p here refl some;
       shows = λ p some. absurd (no_object p some);
@@ -321,7 +327,7 @@ pub acts_own : (d : Domain) (types : Typing) (lent : List ℕ) (sight : Sight) (
 acts_own d types lent sight live i s act keeps tables stand parted at is =
     let kinds = kinds_at d s.at in
     let marked = marked_of lent kinds s.regs parted in
-    let means : meaning d s.at kinds sight live s.regs i ≡ Would act = sym (work_is d sight live s at.number i at.here (finds d types s at.number i keeps stand at.here)) ∙ is in
+    let means : meaning d s.at sight live s.regs i ≡ Would act = sym (work_is d sight live s at.number i at.here (finds d types s at.number i keeps stand at.here)) ∙ is in
     record {
       fits = gives_up d types i s keeps at stand;
       parted = parted_of lent (left kinds i) (waiting i s).regs (marks_given lent (moved i) kinds s.regs marked);

@@ -2,13 +2,13 @@
 use Rattle.std.proofs.Common.{◌≡◌, refl, sym, ◌∙◌, ap, subst, ℕ, zero, suc, ◌+◌, ◌<◌, ◌==◌, Bool, true, false, not, ◌&&◌, List, [], ◌∷◌, length, Option, Some, None, slice_get, arith}
 use Rattle.std.specs.Prelude.{if◌then◌else◌, slice_set}
 use Rattle.std.specs.List.{list_all}
-use Rattle.std.proofs.lemmas.Bool.{eq-eqb, eqb-true, not-true, or_parts, eqb-false}
+use Rattle.std.proofs.lemmas.Bool.{eq-eqb, not-true, or_parts, eqb-false}
 use Rattle.std.proofs.lemmas.List.{get_or-set_same}
 use Rattle.rl_defs.specs.declared.values.Value.{Value}
 use Rattle.rl_defs.specs.declared.values.Value.TheVariants as value
-use Rattle.rl_defs.specs.declared.values.RpcCode.{RpcCode}
-use Rattle.rl_defs.specs.declared.frame.Answer.{Answer}
-use Rattle.rl_defs.specs.declared.frame.Answer.TheVariants as answer
+use Rattle.machine_defs.specs.declared.values.RpcCode.{RpcCode}
+use Rattle.machine_defs.specs.declared.frame.Answer.{Answer}
+use Rattle.machine_defs.specs.declared.frame.Answer.TheVariants as answer
 use Rattle.rl_defs.specs.declared.code.Register.{Register}
 use Rattle.rl_defs.specs.declared.code.RegKind.{RegKind}
 use Rattle.rl_defs.specs.declared.code.RegKind.TheVariants as held
@@ -18,30 +18,35 @@ use Rattle.rl_defs.specs.declared.code.Instr.TheVariants as instr
 use Rattle.rl_defs.specs.declared.code.DomainLine.TheVariants as line
 use Rattle.rl_defs.specs.declared.tables.Kind.{Kind}
 use Rattle.rl_defs.specs.declared.tables.Kind.TheVariants as kind
-use Rattle.rl_defs.specs.declared.tables.MethodRow.{MethodRow}
 use Rattle.rl_defs.specs.declared.tables.Tables.{Tables}
 use Rattle.rl_defs.specs.DomainValue.{Domain}
-use Rattle.rl_defs.specs.Texts.{code_number}
-use Rattle.rl_defs.specs.Loans.{count}
-use Rattle.rl_defs.specs.Crossing.{has}
-use Rattle.rl_defs.specs.Machine.History.{objects_in}
+use Rattle.machine_defs.specs.Entries.{code_number}
+use Rattle.machine_defs.specs.Loans.{count}
+use Rattle.machine_defs.specs.Arguments.{has}
+use Rattle.machine_defs.specs.Arguments.{objects_in}
 use Rattle.rl_defs.specs.CodeNames.{results_of}
 use Rattle.rl_defs.specs.CodeKinds.{Kinds, kinds_at, kind_in, with_kind, is_own, as_register, paired, put_all, leave, leave_all, passed, moved, left, after, at_label, hung_at, own_kind, method_called}
-use Rattle.rl_defs.specs.CodeRules.{reads_are_met, is_among, are_distinct, has_apart, has_counts, has_method, written, spares}
-use Rattle.rl_defs.specs.CodeFits.{KeepsRules, Typing, fits_kind, Fits, FitsStand, FitsWaiting, FitsAnswer, are_values, give_up, all_given_up, put_values, answered, after_answer, after_answer_at}
-use Rattle.rl_defs.specs.CodeLaws.{StandsAt}
-use Rattle.rl_defs.specs.Instructions.{Registers, value_in, with_value, with_number, Stand}
-use Rattle.rl_defs.proofs.CodeRegisters.{and_left, and_right, Fine, set_fine, keep_all, left_none}
-use Rattle.rl_defs.proofs.CodeStands.{keeps_at}
-use Rattle.rl_defs.proofs.CodeAnswers.{waiting_answers_fit, gives_up, failed_label}
-use Rattle.rl_defs.proofs.CodeWidths.{length-kinds_at, length-leave_all}
-use Rattle.machine_laws.specs.Registers.{own, Parted, HasTables, is_lent_kind, received}
+use Rattle.rl_defs.specs.CodeRules.{reads_are_met, is_among, are_distinct, has_apart, has_method, written, spares}
+use Rattle.rl_defs.specs.CodeRules.{KeepsRules}
+use Rattle.rl_defs.specs.Registers.{Typing, fits_kind, Fits}
+use Rattle.machine_defs.specs.CodeFits.{FitsStand, FitsWaiting, FitsAnswer, are_values}
+use Rattle.machine_defs.specs.Instructions.{give_up, all_given_up, put_values, answered, after_answer, after_answer_at}
+use Rattle.machine_defs.specs.CodeLaws.{StandsAt}
+use Rattle.rl_defs.specs.Registers.{Registers, value_in, with_value, Stand}
+use Rattle.machine_defs.specs.Instructions.{with_number}
+use Rattle.machine_defs.proofs.CodeRegisters.{and_left, and_right, Fine, set_fine, keep_all, left_none}
+use Rattle.machine_defs.proofs.CodeStands.{keeps_at}
+use Rattle.machine_defs.proofs.CodeAnswers.{waiting_answers_fit, gives_up, failed_label, moved_given, counts_match, behind_kinds as behind}
+use Rattle.machine_defs.proofs.CodeWidths.{length-kinds_at, length-leave_all}
+use Rattle.machine_laws.specs.Plans.{HasTables}
+use Rattle.machine_laws.proofs.OwnTables.{results_plain}
+use Rattle.machine_laws.specs.Registers.{own, Parted, is_lent_kind, received}
 use Rattle.machine_laws.proofs.OwnCounts.{weight, weight_of}
 use Rattle.machine_laws.proofs.OwnMarks.{mark, Marked, mark_set, mark_emptied, marked_of, parted_of, spare_set}
 use Rattle.machine_laws.proofs.OwnRules.{keeps_own}
 use Rattle.machine_laws.proofs.OwnHeads.{index_other, next_own, jumped_own}
 use Rattle.machine_laws.proofs.OwnWork.{met_at}
-use Rattle.machine_laws.proofs.OwnGiving.{moved_given, marks_given}
+use Rattle.machine_laws.proofs.OwnGiving.{marks_given}
 use Rattle.machine_laws.proofs.OwnActs.{waiting}
 
 -- none of the objects is lent
@@ -152,22 +157,13 @@ record Waits (types : Typing) (loans : List ℕ) (d : Domain) (kinds : Kinds) (i
   apart : has_apart (line.Code i) ≡ true
   method : has_method d kinds (line.Code i) ≡ true
 
--- the kinds behind an answer
-abbrev behind : Domain → Kinds → Instr → Answer → Kinds
-behind d kinds i (answer.Failed failure) = at_label kinds i
-behind d kinds i _ = after d kinds i
-
 -- what has been given up isn't given up again
 stays_given : (types : Typing) (lent : List ℕ) (d : Domain) (kinds : Kinds) (i : Instr) (regs : Registers) → Waits types lent d kinds i regs → all_given_up (moved i) regs ≡ regs
 stays_given types lent d kinds i regs waits = keep_all types (moved i) (left kinds i) regs waits.fits (left_none (moved i) kinds (moved_given kinds i waits.met))
 
-counts_match : (m : Option MethodRow) (args : List CallArg) (results : List Register) → has_counts m args results ≡ true → length (results_of m) ≡ length results
-counts_match None args results h = cc
-counts_match (Some m) args results h = eqb-true (length m.results) (length results) (and_right (length m.params == length args) (length m.results == length results) h)
-
 -- no method that is called lends a result
 plain_results : (tables : Tables) (k : RegKind) (name : List ℕ) → HasTables tables → list_all (λ x. not (is_lent_kind x)) (results_of (method_called tables k name)) ≡ true
-plain_results tables (held.Cap t) name has = has.results t name
+plain_results tables (held.Cap t) name has = results_plain tables has t name
 plain_results tables k name has = refl
 
 back_gains : (types : Typing) (lent : List ℕ) (d : Domain) (kinds : Kinds) (c : Register) (method : List ℕ) (args : List CallArg) (results : List Register) (e : Register) (label : List ℕ) (values : List Value) (regs : Registers) → Waits types lent d kinds (instr.Call c method args results e label) regs → are_values types (results_of (method_called d.tables (kind_in kinds c) method)) values ≡ true → Unlent lent (objects_in values) → Gained lent (after d kinds (instr.Call c method args results e label)) regs (objects_in values) (put_values results values regs)

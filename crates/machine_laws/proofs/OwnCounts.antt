@@ -6,10 +6,10 @@ use Rattle.std.proofs.lemmas.Bool.{cases_Bool, ne_eqb}
 use Rattle.rl_defs.specs.declared.values.Value.{Value}
 use Rattle.rl_defs.specs.declared.values.Value.TheVariants as value
 use Rattle.rl_defs.specs.declared.code.Register.{Register}
-use Rattle.rl_defs.specs.Loans.{count}
-use Rattle.rl_defs.specs.Crossing.{has}
-use Rattle.rl_defs.specs.Instructions.{Registers, is_listed, keep_from}
-use Rattle.rl_defs.specs.Machine.Sound.{object_held}
+use Rattle.machine_defs.specs.Loans.{count}
+use Rattle.machine_defs.specs.Arguments.{has}
+use Rattle.rl_defs.specs.Registers.{Registers, is_listed, keep_from}
+use Rattle.machine_defs.specs.Sound.{object_held}
 use Rattle.machine_laws.specs.Registers.{own}
 
 -- an object, where it is this one and isn't lent

@@ -1,33 +1,38 @@
 -- What a frame that does something has of its own before and behind it, whether it runs code or a native body.
 use Rattle.std.proofs.Common.{◌≡◌, ℕ, zero, suc, ◌<◌, ◌≤◌, ◌==◌, nat_lt, true, ◌⊎◌, List, [], ◌∷◌, length, refl, ap, sym, subst, ◌∙◌, arith, inl, inr}
 use Rattle.std.proofs.lemmas.Bool.{cases_Bool, eqb-true}
-use Rattle.rl_defs.specs.declared.values.Cause.TheVariants as cause
-use Rattle.rl_defs.specs.declared.frame.Action.{Action}
-use Rattle.rl_defs.specs.declared.frame.Action.TheVariants as action
-use Rattle.rl_defs.specs.declared.frame.Answer.{Answer}
-use Rattle.rl_defs.specs.declared.frame.Answer.TheVariants as answer
-use Rattle.rl_defs.specs.declared.frame.FrameBody.{FrameBody}
-use Rattle.rl_defs.specs.declared.frame.FrameBody.TheVariants as body
-use Rattle.rl_defs.specs.declared.load.Load.{Load}
+use Rattle.machine_defs.specs.declared.values.Cause.TheVariants as cause
+use Rattle.machine_defs.specs.declared.frame.Action.{Action}
+use Rattle.machine_defs.specs.declared.frame.Action.TheVariants as action
+use Rattle.machine_defs.specs.declared.frame.Answer.{Answer}
+use Rattle.machine_defs.specs.declared.frame.Answer.TheVariants as answer
+use Rattle.machine_defs.specs.declared.frame.FrameBody.{FrameBody}
+use Rattle.machine_defs.specs.declared.frame.FrameBody.TheVariants as body
+use Rattle.rl_defs.specs.declared.load.LoadRows.{LoadRows}
 use Rattle.rl_defs.specs.CodeKinds.{kinds_at}
-use Rattle.rl_defs.specs.CodeFits.{Typing, FitsAnswer}
-use Rattle.rl_defs.specs.Instructions.{Registers}
-use Rattle.rl_defs.specs.State.{State, StackFrame, row}
-use Rattle.rl_defs.specs.Loans.{count}
-use Rattle.rl_defs.specs.Wanted.{Acts, instance_load}
-use Rattle.rl_defs.specs.Crossing.{has, is_undone}
-use Rattle.rl_defs.specs.Machine.Seen.{domain_of_instance}
-use Rattle.rl_defs.specs.Machine.NativeFits.{types_of, CanChoose}
-use Rattle.rl_defs.specs.Machine.Wants.{by_body}
-use Rattle.rl_defs.specs.Machine.Frames.{Answers, AnswersBody, held_after}
-use Rattle.rl_defs.specs.Machine.ObjectRows.{Does}
-use Rattle.rl_defs.specs.Machine.Sound.{own_of, own_of_body}
+use Rattle.rl_defs.specs.Registers.{Typing}
+use Rattle.machine_defs.specs.CodeFits.{FitsAnswer}
+use Rattle.rl_defs.specs.Registers.{Registers}
+use Rattle.machine_defs.specs.State.{State, StackFrame}
+use Rattle.rl_defs.specs.Rows.{row}
+use Rattle.machine_defs.specs.Loans.{count}
+use Rattle.machine_defs.specs.Wants.{Acts}
+use Rattle.machine_defs.specs.State.{instance_load}
+use Rattle.machine_defs.specs.Arguments.{has}
+use Rattle.machine_defs.specs.Calling.{is_undone}
+use Rattle.machine_defs.specs.Seen.{domain_of_instance}
+use Rattle.machine_defs.specs.NativeFits.{CanChoose}
+use Rattle.machine_defs.specs.Seen.{types_of}
+use Rattle.machine_defs.specs.Wants.{by_body}
+use Rattle.machine_defs.specs.Frames.{Answers, AnswersBody, held_after}
+use Rattle.machine_defs.specs.ObjectRows.{Does}
+use Rattle.machine_defs.specs.Sound.{own_of, own_of_body}
 use Rattle.machine_laws.specs.LedgerOf.{frame_entry, ledger_of}
 use Rattle.machine_laws.specs.LedgerSound.{Owned}
 use Rattle.machine_laws.specs.LedgerRows.{Exchanged}
 use Rattle.machine_laws.specs.Shape.{Laid}
-use Rattle.machine_laws.specs.Plans.{Plans}
-use Rattle.machine_laws.specs.Registers.{HasTables, Retyped, own, given_away, used, shown, received}
+use Rattle.machine_laws.specs.Plans.{Plans, HasTables}
+use Rattle.machine_laws.specs.Registers.{Retyped, own, given_away, used, shown, received}
 use Rattle.machine_laws.specs.Fitting.{BodyFits, Fitting}
 use Rattle.machine_laws.proofs.Tops.{under}
 use Rattle.machine_laws.proofs.FrameRows.{doing, actor, actor_runs}
@@ -57,7 +62,7 @@ done_no_trap (action.Trap k) a done c e = absurd done
 done_no_trap other a done c e = cc
 
 -- a native body that does something does what it had chosen
-pub native_kept : (L : Load) (s : State) (f : StackFrame) (fuel : ℕ) (held : List ℕ) (kept act : Action) (rest : ℕ) (frame : StackFrame) → by_body L s fuel f (body.Native held kept) ≡ Acts act rest frame → NotTrap act → (frame ≡ f) × (act ≡ kept)
+pub native_kept : (L : LoadRows) (s : State) (f : StackFrame) (fuel : ℕ) (held : List ℕ) (kept act : Action) (rest : ℕ) (frame : StackFrame) → by_body L s fuel f (body.Native held kept) ≡ Acts act rest frame → NotTrap act → (frame ≡ f) × (act ≡ kept)
 native_kept L s f zero held kept act rest frame e no_trap = absurd (no_trap cause.Fuel (let h : action.Trap cause.Fuel ≡ act = cc in sym h))
 native_kept L s f (suc fuel) held (action.New ty) act rest frame e no_trap = elim (cases_Bool (nat_lt (length s.objects) 65536)) [
   | inl room ↦ let e' : Acts (action.New ty) (suc fuel) f ≡ Acts act rest frame = rw room at e in (cc, cc)
@@ -79,7 +84,7 @@ record Held (held : List ℕ) (act : Action) (a : Answer) : Type 0 where
   keeps : (p : ℕ) → 0 < count p (used act) → 0 < count p (held_after act a held)
   shows : (p : ℕ) → 0 < count p (shown act) → ⊥
 
-native_does : (L : Load) (s z : State) (f after : StackFrame) (held : List ℕ) (act : Action) (a : Answer) → f.body ≡ body.Native held act → IsDone act a → CanChoose L s f held act → ((p : ℕ) → count p held ≤ 1) → Answers L z f a after → DoesOwn f after act a
+native_does : (L : LoadRows) (s z : State) (f after : StackFrame) (held : List ℕ) (act : Action) (a : Answer) → f.body ≡ body.Native held act → IsDone act a → CanChoose L s f held act → ((p : ℕ) → count p held ≤ 1) → Answers L z f a after → DoesOwn f after act a
 native_does L s z f after held act a is done can once gets =
     let got : AnswersBody L z f a (body.Native held act) after = subst (λ b. AnswersBody L z f a b after) is gets in
     let own_f : own_of f ≡ held = ap (own_of_body f.lent) is in
@@ -118,12 +123,12 @@ native_does L s z f after held act a is done can once gets =
     go act a done can = absurd done
 
 -- what code needs to know of the answer: a typing that agrees with the state's on the registers, by which the answer fits
-pub record CodeAnswer (L : Load) (s : State) (f : StackFrame) (act : Action) (a : Answer) (at fuel rest : ℕ) (regs : Registers) (frame : StackFrame) (c : CodeDoes L s f at fuel regs act rest frame) : Type 0 where
+pub record CodeAnswer (L : LoadRows) (s : State) (f : StackFrame) (act : Action) (a : Answer) (at fuel rest : ℕ) (regs : Registers) (frame : StackFrame) (c : CodeDoes L s f at fuel regs act rest frame) : Type 0 where
   pub types : Typing
   pub re : Retyped (types_of L s) types c.at_rest.stand.regs
   pub fits : FitsAnswer types (domain_of_instance L s f.instance) (kinds_at (domain_of_instance L s f.instance) c.at_rest.stand.at) c.instr a
 
-module _ {L : Load} {s : State} {t i : ℕ} {act : Action} {a : Answer} {change : State → State} {z : State} (plans : Plans L) (tables : HasTables L.tables) (laid : Laid L s) (owned : Owned L (ledger_of L s)) (fits : Fitting L s)
+module _ {L : LoadRows} {s : State} {t i : ℕ} {act : Action} {a : Answer} {change : State → State} {z : State} (plans : Plans L) (tables : HasTables L.tables) (laid : Laid L s) (owned : Owned L (ledger_of L s)) (fits : Fitting L s)
     (ready : is_undone (row s.threads t) ≡ true) (d : Does L s t i act a change z) (done : IsDone act a) (load' : instance_load z (actor laid ready d).instance ≡ instance_load s (actor laid ready d).instance) where
   -- the frame that acts, at its code
   abbrev pub acting_code : (at : ℕ) (regs : Registers) → (actor laid ready d).body ≡ body.Code at regs → CodeDoes L s (actor laid ready d) at (doing laid ready d).thread.fuel regs act d.fuel d.frame

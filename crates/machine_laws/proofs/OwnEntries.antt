@@ -1,12 +1,12 @@
 -- A frame begins with the objects that its call moved as its own; and what holds of registers holds under each typing of their objects.
-use Rattle.std.proofs.Common.{◌≡◌, refl, sym, ◌∙◌, ap, ℕ, zero, suc, ◌+◌, ◌-◌, ◌<◌, ◌≤◌, ◌==◌, Bool, true, false, cond, not, List, [], ◌∷◌, ◌++◌, length, map, Option, Some, None, slice_get, arith, one-add, suc-add, zero-add, append_assoc, length-append, inl, inr}
-use Rattle.std.specs.Prelude.{slice_set, replicate}
+use Rattle.std.proofs.Common.{◌≡◌, refl, sym, ◌∙◌, ap, ℕ, zero, suc, ◌+◌, ◌-◌, ◌<◌, ◌==◌, Bool, true, false, cond, not, List, [], ◌∷◌, ◌++◌, length, map, Option, Some, None, slice_get, arith, one-add, inl, inr}
+use Rattle.std.specs.Prelude.{replicate}
 use Rattle.std.specs.List.{slice_index_or, position_or_len}
 use Rattle.std.proofs.lemmas.List.{length-map}
 use Rattle.std.proofs.lemmas.Bool.{cases_Bool, false_from_ne_true}
 use Rattle.rl_defs.specs.declared.bundle.Numbered.{Numbered}
-use Rattle.rl_defs.specs.declared.values.Arg.{Arg}
-use Rattle.rl_defs.specs.declared.values.Arg.TheVariants as given
+use Rattle.machine_defs.specs.declared.values.Arg.{Arg}
+use Rattle.machine_defs.specs.declared.values.Arg.TheVariants as given
 use Rattle.rl_defs.specs.declared.values.Value.{Value}
 use Rattle.rl_defs.specs.declared.values.Value.TheVariants as value
 use Rattle.rl_defs.specs.declared.code.RegKind.{RegKind}
@@ -16,49 +16,29 @@ use Rattle.rl_defs.specs.declared.code.DomainLine.{DomainLine}
 use Rattle.rl_defs.specs.declared.code.DomainLine.TheVariants as line
 use Rattle.rl_defs.specs.declared.tables.Kind.{Kind}
 use Rattle.rl_defs.specs.declared.tables.Kind.TheVariants as kind
-use Rattle.rl_defs.specs.declared.tables.MethodRow.{MethodRow}
 use Rattle.rl_defs.specs.DomainValue.{Domain}
 use Rattle.rl_defs.specs.Domains.{is_native, begins_function}
-use Rattle.rl_defs.specs.CodeNames.{methods_of, method_number, method_named, row_at, params_of, domain_trait}
-use Rattle.rl_defs.specs.CodeKinds.{Kinds, kinds_at, as_register, put_from, entry_kinds, after_line, left}
-use Rattle.rl_defs.specs.Loans.{count}
-use Rattle.rl_defs.specs.Crossing.{has, value_of, moved_of, lent_of, entry_registers}
-use Rattle.rl_defs.specs.CodeFits.{KeepsRules, Typing, fits_kind, Fits, FitsStand, FitsWaiting}
-use Rattle.rl_defs.specs.Instructions.{Registers, Stand}
-use Rattle.rl_defs.specs.LineRows.{entry_of, entry_at}
-use Rattle.rl_defs.specs.CodeLaws.{FitsArguments}
-use Rattle.rl_defs.proofs.CodeRegisters.{and_left, and_right}
+use Rattle.rl_defs.specs.CodeNames.{method_named, params_of, domain_trait}
+use Rattle.rl_defs.specs.CodeKinds.{Kinds, kinds_at, as_register, entry_kinds, after_line, left}
+use Rattle.machine_defs.specs.Loans.{count}
+use Rattle.machine_defs.specs.Arguments.{has, value_of, moved_of, lent_of, entry_registers}
+use Rattle.rl_defs.specs.CodeRules.{KeepsRules}
+use Rattle.rl_defs.specs.Registers.{Typing, fits_kind, Fits}
+use Rattle.machine_defs.specs.CodeFits.{FitsStand, FitsWaiting}
+use Rattle.rl_defs.specs.Registers.{Registers, Stand}
+use Rattle.rl_defs.specs.CodeNames.{entry_of, entry_at}
+use Rattle.machine_defs.specs.CodeLaws.{FitsArguments}
+use Rattle.machine_defs.proofs.CodeRegisters.{and_left, and_right}
 use Rattle.rl_defs.proofs.CodeBlocks.{some_line}
-use Rattle.rl_defs.proofs.CodeStands.{kinds_next}
-use Rattle.rl_defs.proofs.CodeEntries.{as_many, entries_fit}
+use Rattle.machine_defs.proofs.CodeStands.{kinds_next}
+use Rattle.machine_defs.proofs.CodeEntries.{as_many, entries_fit, entry_is, named_row}
 use Rattle.rl_defs.proofs.TableSizes.{small_method}
-use Rattle.machine_laws.specs.Registers.{own, Parted, passes_as, all_pass_as, Retyped}
+use Rattle.machine_laws.specs.Registers.{own, Parted, is_passed_as, all_pass_as, Retyped}
 use Rattle.machine_laws.proofs.OwnCounts.{weight, weight_of, own_first}
 use Rattle.machine_laws.proofs.OwnMarks.{mark, parted_of}
 use Rattle.machine_laws.proofs.OwnAnswers.{one_more}
 use Rattle.machine_laws.proofs.Contents.{same_list}
 use Rattle.machine_laws.proofs.Counts.{has_counted, counted_has}
-
--- the kinds at a function's first line are the parameters', and no others
-set_seam : (front : Kinds) (k y : RegKind) (rest : Kinds) → slice_set (front ++ k ∷ rest) (length front) y ≡ front ++ y ∷ rest
-set_seam [] k y rest = refl
-set_seam (x ∷ front) k y rest = ap (λ xs. x ∷ xs) (set_seam front k y rest)
-
-put_behind : (front : Kinds) (ks : List Kind) (j : ℕ) → put_from (length front) ks (front ++ replicate (length ks + j) held.Empty) ≡ front ++ (map as_register ks ++ replicate j held.Empty)
-put_behind front [] j = rw zero-add refl
-put_behind front (k ∷ ks) j =
-    let rest = replicate (length ks + j) held.Empty in
-    let one : List RegKind = as_register k ∷ [] in
-    let count : length front + 1 ≡ length (front ++ one) = omega (arith, length-append front one) in
-    ap (λ n. put_from (length front + 1) ks (slice_set (front ++ replicate n held.Empty) (length front) (as_register k))) (suc-add (length ks) j)
-    ∙ (ap (put_from (length front + 1) ks) (set_seam front held.Empty (as_register k) rest ∙ sym (append_assoc front one rest))
-    ∙ (ap (λ n. put_from n ks ((front ++ one) ++ rest)) count
-    ∙ (put_behind (front ++ one) ks j ∙ append_assoc front one (map as_register ks ++ replicate j held.Empty))))
-
-entry_is : (ks : List Kind) → length ks ≤ 32 → entry_kinds ks ≡ map as_register ks ++ replicate (32 - length ks) held.Empty
-entry_is ks le =
-    let all : length ks + (32 - length ks) ≡ 32 = omega arith in
-    ap (λ n. put_from 0 ks (replicate n held.Empty)) (sym all) ∙ put_behind [] ks (32 - length ks)
 
 -- the line before a function's first line is its head
 pub passes_first : {A : Type 0} (test : A → Bool) (xs : List A) (x : A) → slice_get xs (position_or_len test xs) ≡ Some x → test x ≡ true
@@ -77,10 +57,6 @@ passes_first {A = A} test (y ∷ xs) x here = elim (cases_Bool (test y)) [
 begins_kinds : (d : Domain) (kinds : Kinds) (name : List ℕ) (form : DomainLine) → begins_function name form ≡ true → after_line d kinds form ≡ entry_kinds (params_of (method_named d.tables (domain_trait d) name))
 begins_kinds d kinds name (line.Function n) b = ap (λ x. entry_kinds (params_of (method_named d.tables (domain_trait d) x))) (same_list n name b)
 begins_kinds d kinds name form b = absurd (cc)
-
-named_row : (d : Domain) (name : List ℕ) (m : ℕ) (row : MethodRow) → method_number d.tables (domain_trait d) name ≡ Some m → slice_get (methods_of d.tables (domain_trait d)) m ≡ Some row → params_of (method_named d.tables (domain_trait d) name) ≡ row.params
-named_row d name m row named here =
-    ap (λ o. params_of (row_at (methods_of d.tables (domain_trait d)) o)) named ∙ ap params_of here
 
 kinds_entered : (d : Domain) (types : Typing) (m place : ℕ) (args : List Arg) → (given : FitsArguments types d m args) → entry_at d m ≡ Some place → place < length d.lines → kinds_at d place ≡ entry_kinds given.method.params
 kinds_entered d types m place args given at within =
@@ -126,7 +102,7 @@ parts_rest lent a args parts = record {
   lent = λ o some. parts.lent o (omega (arith, more_lent o a args));
 }
 
-arg_mark : (lent : List ℕ) (k : Kind) (a : Arg) → passes_as k a ≡ true → Parts lent (a ∷ []) → mark lent (as_register k) (Some (value_of a)) ≡ true
+arg_mark : (lent : List ℕ) (k : Kind) (a : Arg) → is_passed_as k a ≡ true → Parts lent (a ∷ []) → mark lent (as_register k) (Some (value_of a)) ≡ true
 arg_mark lent (kind.Own s) (given.Moved o) passes parts = ap not (parts.moved o (one_more o))
 arg_mark lent (kind.Own s) (given.Lent o) passes parts = cc
 arg_mark lent (kind.Lent s) (given.Lent o) passes parts = parts.lent o (one_more o)
@@ -139,8 +115,8 @@ args_marked : (lent : List ℕ) (ks : List Kind) (args : List Arg) (j r : ℕ) �
 args_marked lent [] [] j r many passes parts = empty_marks lent j r
 args_marked lent [] (a ∷ args) j r many passes parts = absurd (omega arith)
 args_marked lent (k ∷ ks) [] j r many passes parts = absurd (omega arith)
-args_marked lent (k ∷ ks) (a ∷ args) j zero many passes parts = arg_mark lent k a (and_left (passes_as k a) (all_pass_as ks args) passes) (parts_first lent a args parts)
-args_marked lent (k ∷ ks) (a ∷ args) j (suc r) many passes parts = args_marked lent ks args j r (omega arith) (and_right (passes_as k a) (all_pass_as ks args) passes) (parts_rest lent a args parts)
+args_marked lent (k ∷ ks) (a ∷ args) j zero many passes parts = arg_mark lent k a (and_left (is_passed_as k a) (all_pass_as ks args) passes) (parts_first lent a args parts)
+args_marked lent (k ∷ ks) (a ∷ args) j (suc r) many passes parts = args_marked lent ks args j r (omega arith) (and_right (is_passed_as k a) (all_pass_as ks args) passes) (parts_rest lent a args parts)
 
 arg_weight : (lent : List ℕ) (p : ℕ) (a : Arg) → Parts lent (a ∷ []) → weight lent p (Some (value_of a)) ≡ count p (moved_of (a ∷ []))
 arg_weight lent p (given.Num n) parts = refl

@@ -9,14 +9,14 @@ use Rattle.std.proofs.lemmas.Bool.Decides.{Decides-eqb}
 use Rattle.std.proofs.lemmas.Slice.Eq.{slice_eq-Decides}
 use Rattle.rl_defs.specs.declared.values.Value.{Value}
 use Rattle.rl_defs.specs.declared.values.Value.TheVariants as value
-use Rattle.rl_defs.specs.declared.values.Arg.{Arg}
-use Rattle.rl_defs.specs.declared.values.Arg.TheVariants as given
-use Rattle.rl_defs.specs.declared.values.Cause.{Cause}
-use Rattle.rl_defs.specs.declared.values.Cause.TheVariants as cause
-use Rattle.rl_defs.specs.declared.values.RpcCode.{RpcCode}
-use Rattle.rl_defs.specs.declared.frame.Action.{Action}
-use Rattle.rl_defs.specs.declared.frame.Action.TheVariants as action
-use Rattle.rl_defs.specs.declared.frame.Answer.TheVariants as answer
+use Rattle.machine_defs.specs.declared.values.Arg.{Arg}
+use Rattle.machine_defs.specs.declared.values.Arg.TheVariants as given
+use Rattle.machine_defs.specs.declared.values.Cause.{Cause}
+use Rattle.machine_defs.specs.declared.values.Cause.TheVariants as cause
+use Rattle.machine_defs.specs.declared.values.RpcCode.{RpcCode}
+use Rattle.machine_defs.specs.declared.frame.Action.{Action}
+use Rattle.machine_defs.specs.declared.frame.Action.TheVariants as action
+use Rattle.machine_defs.specs.declared.frame.Answer.TheVariants as answer
 use Rattle.rl_defs.specs.declared.code.Register.{Register}
 use Rattle.rl_defs.specs.declared.code.RegKind.{RegKind}
 use Rattle.rl_defs.specs.declared.code.RegKind.TheVariants as held
@@ -28,21 +28,28 @@ use Rattle.rl_defs.specs.declared.code.DomainLine.TheVariants as line
 use Rattle.rl_defs.specs.declared.tables.Kind.{Kind}
 use Rattle.rl_defs.specs.declared.tables.Kind.TheVariants as kind
 use Rattle.rl_defs.specs.declared.tables.MethodRow.{MethodRow}
-use Rattle.rl_defs.specs.Sight.{Sight}
+use Rattle.machine_defs.specs.Sight.{Sight}
 use Rattle.rl_defs.specs.DomainValue.{Domain}
 use Rattle.rl_defs.specs.Interfaces.{place_of}
 use Rattle.rl_defs.specs.CodeNames.{struct_number, methods_of, method_number, method_named, row_at, params_of, results_of, slots, place_in, type_at, slot_struct, method_at}
 use Rattle.rl_defs.specs.CodeKinds.{Kinds, kinds_at, kind_in, Owned, Target, Passed, read, read_of_arg, as_register, method_called, hung_at}
-use Rattle.rl_defs.specs.CodeRules.{meets, is_met, reads_are_met, same_kind, object_struct, is_struct, suits, args_suit as code_args_suit, results_suit, suits_slot, suits_cell, operands_suit, names_cell, declares, has_counts, has_method}
-use Rattle.rl_defs.specs.Crossing.{value_of}
-use Rattle.rl_defs.specs.CodeFits.{KeepsRules, Typing, fits_kind, Fits, FitsStand, FitsSight, FitsAnswer, are_values}
-use Rattle.rl_defs.specs.CodeLaws.{StandsAt}
-use Rattle.rl_defs.specs.Machine.NativeFits.{arg_suits, args_suit, value_suits, values_suit}
-use Rattle.rl_defs.specs.Instructions.{Registers, value_in, object, object_in, number_in, target, arg_fits, args_fit, value_fits, values_fit, passed_value, given_by, result_in, slot_number, trait_of_kind, cell_kind, Outcome, Works, Jumps, Would, number_or_trap, unless_trap, setting, calculate, meaning, work, Stand}
-use Rattle.rl_defs.proofs.CodeRegisters.{and_left, and_right}
-use Rattle.rl_defs.proofs.CodeSafe.{work_is, finds}
-use Rattle.rl_defs.proofs.CodeStands.{keeps_at}
-use Rattle.machine_laws.specs.Registers.{is_lent_kind, passes_as, all_pass_as}
+use Rattle.rl_defs.specs.CodeRules.{meets, is_met, reads_are_met, same_kind, is_struct, passes_as, args_suit as code_args_suit, results_suit, suits_slot, suits_cell, operands_suit, has_cell, declares, has_counts, has_method}
+use Rattle.rl_defs.specs.CodeKinds.{object_struct}
+use Rattle.machine_defs.specs.Arguments.{value_of}
+use Rattle.rl_defs.specs.CodeRules.{KeepsRules}
+use Rattle.rl_defs.specs.Registers.{Typing, fits_kind, Fits}
+use Rattle.machine_defs.specs.CodeFits.{FitsStand, FitsSight, FitsAnswer, are_values}
+use Rattle.machine_defs.specs.CodeLaws.{StandsAt}
+use Rattle.machine_defs.specs.NativeFits.{arg_suits, args_suit, value_suits, values_suit}
+use Rattle.rl_defs.specs.Registers.{Registers, value_in, Stand}
+use Rattle.machine_defs.specs.Instructions.{object, object_in, number_in, target, arg_fits, args_fit, value_fits, values_fit, passed_value, given_by, result_in, struct_in, trait_in, cell_kind, Outcome, Works, Jumps, Would, number_or_trap, unless_trap, setting, calculate, meaning, work}
+use Rattle.rl_defs.specs.CodeNames.{slot_number}
+use Rattle.rl_defs.specs.CodeKinds.{trait_of_kind}
+use Rattle.machine_defs.proofs.CodeTypes.{called_is_named, target_is}
+use Rattle.machine_defs.proofs.CodeRegisters.{and_left, and_right}
+use Rattle.machine_defs.proofs.CodeSafe.{work_is, finds}
+use Rattle.machine_defs.proofs.CodeStands.{keeps_at}
+use Rattle.machine_laws.specs.Registers.{is_lent_kind, is_passed_as, all_pass_as}
 use Rattle.machine_laws.proofs.OwnWork.{met_at}
 
 -- arguments and results that suit a method are of its kinds, and are moved or lent as it says
@@ -60,7 +67,7 @@ args_are_values types (k ∷ ks) [] s = cc
 args_are_values types (k ∷ ks) (a ∷ args) s =
     rw (arg_of_kind types k a (and_left (arg_suits types k a) (args_suit types ks args) s)) (args_are_values types ks args (and_right (arg_suits types k a) (args_suit types ks args) s))
 
-arg_passes : (types : Typing) (k : Kind) (a : Arg) → arg_suits types k a ≡ true → passes_as k a ≡ true
+arg_passes : (types : Typing) (k : Kind) (a : Arg) → arg_suits types k a ≡ true → is_passed_as k a ≡ true
 arg_passes types (kind.Own ty) (given.Moved o) s = refl
 arg_passes types (kind.Lent ty) (given.Lent o) s = refl
 arg_passes types (kind.Num w) a s = refl
@@ -102,7 +109,7 @@ lent_suits types s (held.Own t) (Some (value.Obj o)) is f = ap (λ n. types.stru
 lent_suits types s (held.Lent t) (Some (value.Obj o)) is f = ap (λ n. types.struct_of o == n) (sym (eqb-true t s is)) ∙ f
 lent_suits types s k v is f = cc
 
-given_suits : (types : Typing) (kinds : Kinds) (regs : Registers) (p : Kind) (a : CallArg) → Fits types kinds regs → suits kinds p a ≡ true → arg_fits p (given_by regs a) ≡ true → arg_suits types p (given_by regs a) ≡ true
+given_suits : (types : Typing) (kinds : Kinds) (regs : Registers) (p : Kind) (a : CallArg) → Fits types kinds regs → passes_as kinds p a ≡ true → arg_fits p (given_by regs a) ≡ true → arg_suits types p (given_by regs a) ≡ true
 given_suits types kinds regs (kind.Lent s) (arg.Lent r) fit is width = lent_suits types s (kind_in kinds r) (value_in regs r) is (fit.each r.number)
 given_suits types kinds regs (kind.Lent s) (arg.Passed r) fit is width = cc
 given_suits types kinds regs (kind.Num w) (arg.Passed r) fit is width = passed_suits types (kind.Num w) (kind_in kinds r) (value_in regs r) refl is (fit.each r.number) width
@@ -115,8 +122,8 @@ call_suits types kinds regs [] [] fit many is width = refl
 call_suits types kinds regs [] (a ∷ args) fit many is width = absurd (omega arith)
 call_suits types kinds regs (p ∷ ps) [] fit many is width = absurd (omega arith)
 call_suits types kinds regs (p ∷ ps) (a ∷ args) fit many is width =
-    let here = given_suits types kinds regs p a fit (and_left (suits kinds p a) (code_args_suit kinds ps args) is) (and_left (arg_fits p (given_by regs a)) (args_fit ps (map (given_by regs) args)) width) in
-    rw here (call_suits types kinds regs ps args fit (omega arith) (and_right (suits kinds p a) (code_args_suit kinds ps args) is) (and_right (arg_fits p (given_by regs a)) (args_fit ps (map (given_by regs) args)) width))
+    let here = given_suits types kinds regs p a fit (and_left (passes_as kinds p a) (code_args_suit kinds ps args) is) (and_left (arg_fits p (given_by regs a)) (args_fit ps (map (given_by regs) args)) width) in
+    rw here (call_suits types kinds regs ps args fit (omega arith) (and_right (passes_as kinds p a) (code_args_suit kinds ps args) is) (and_right (arg_fits p (given_by regs a)) (args_fit ps (map (given_by regs) args)) width))
 
 -- the results of a return
 result_suits : (types : Typing) (p : Kind) (k : RegKind) (v : Option Value) → meets Passed k ≡ true → same_kind (as_register p) k ≡ true → fits_kind types k v ≡ true → value_fits p (unwrap_or v (value.Num 0)) ≡ true → value_suits types p (unwrap_or v (value.Num 0)) ≡ true
@@ -145,7 +152,7 @@ place_first name x xs true o k same rest e = let at : 0 ≡ k = cc in ap (slice_
 place_first name x xs false None k same rest e = absurd (cc)
 place_first name x xs false (Some j) k same rest e = let at : suc j ≡ k = cc in ap (slice_get (x ∷ xs)) (sym at) ∙ rest j refl
 
-place_holds : (name : List ℕ) (xs : List (List ℕ)) (k : ℕ) → place_of name xs ≡ Some k → slice_get xs k ≡ Some name
+pub place_holds : (name : List ℕ) (xs : List (List ℕ)) (k : ℕ) → place_of name xs ≡ Some k → slice_get xs k ≡ Some name
 place_holds name [] k e = absurd (cc)
 place_holds name (x ∷ xs) k e = place_first name x xs (pointwise nat_eq x name) (place_of name xs) k (same_text x name) (place_holds name xs) e
 
@@ -225,7 +232,7 @@ record Knows (types : Typing) (d : Domain) (n : ℕ) (sight : Sight) (kinds : Ki
   fits : Fits types kinds regs
   met : reads_are_met kinds i ≡ true
   suits : operands_suit d n kinds i ≡ true
-  cell : names_cell d kinds i ≡ true
+  cell : has_cell d kinds (line.Code i) ≡ true
   declared : declares d (line.Code i) ≡ true
   method : has_method d kinds (line.Code i) ≡ true
 
@@ -290,7 +297,7 @@ call_fits types d n sight kinds regs c method args results e label (held.Cap t) 
     }
 call_fits types d n sight kinds regs c method args results e label k v ke ve knows m f width = absurd (cc)
 
-fits : (types : Typing) (d : Domain) (n : ℕ) (kinds : Kinds) (sight : Sight) (live : ℕ) (regs : Registers) (i : Instr) → Knows types d n sight kinds regs i → FitsWhen types d n sight live kinds i (meaning d n kinds sight live regs i)
+fits : (types : Typing) (d : Domain) (n : ℕ) (kinds : Kinds) (sight : Sight) (live : ℕ) (regs : Registers) (i : Instr) → Knows types d n sight kinds regs i → FitsWhen types d n sight live kinds i (meaning d n sight live regs i)
 fits types d n kinds sight live regs (instr.Math o a b c) knows = number_fits types d n sight live kinds (instr.Math o a b c) regs a cause.Divide (calculate o (number_in regs b) (number_in regs c))
 fits types d n kinds sight live regs (instr.Jz a label) knows = jz_fits types d n sight live kinds (instr.Jz a label) regs (number_in regs a == 0)
 fits types d n kinds sight live regs (instr.Get a o i) knows = number_fits types d n sight live kinds (instr.Get a o i) regs a cause.Bounds _
@@ -298,7 +305,7 @@ fits types d n kinds sight live regs (instr.Wget a i) knows = number_fits types 
 fits types d n kinds sight live regs (instr.New a ty) knows = unless_fits types d n sight live kinds (instr.New a ty) _ cause.HeapFull (action.New (struct_number d.tables ty)) (λ room. (room, λ other o e. e))
 fits types d n kinds sight live regs (instr.Drop a) knows = tt
 fits types d n kinds sight live regs (instr.Set o i v) knows =
-    set_fits types d n sight live kinds o i v (sight.cell (object_in regs o) (number_in regs i)) (cell_kind d (object_struct (kind_in kinds o)) (number_in regs i)) (object_in regs o) (number_in regs i) (number_in regs v) refl
+    set_fits types d n sight live kinds o i v (sight.cell (object_in regs o) (number_in regs i)) (cell_kind d.tables (struct_in sight regs o) (number_in regs i)) (object_in regs o) (number_in regs i) (number_in regs v) refl
 fits types d n kinds sight live regs (instr.Wput i v) knows = unless_fits types d n sight live kinds (instr.Wput i v) _ cause.Bounds (action.Wput (number_in regs i) (number_in regs v)) (λ there. (there, tt))
 fits types d n kinds sight live regs (instr.Take a slot) knows =
     unless_fits types d n sight live kinds (instr.Take a slot) _ cause.Empty (action.Take (slot_number d slot))
@@ -319,8 +326,15 @@ fits types d n kinds sight live regs (instr.Hang o place v) knows =
 fits types d n kinds sight live regs (instr.Unhang a o place) knows =
     unless_fits types d n sight live kinds (instr.Unhang a o place) _ cause.Empty (action.Unhang (object_in regs o) place) (λ there. unhang_fits types d n sight kinds regs a o place knows there)
 fits types d n kinds sight live regs (instr.Call c method args results e label) knows =
-    unless_fits types d n sight live kinds (instr.Call c method args results e label) _ cause.Range (action.Call (target (value_in regs c)) (unwrap_or (method_number d.tables (trait_of_kind (kind_in kinds c)) method) 0) (map (given_by regs) args))
-    (λ width. call_fits types d n sight kinds regs c method args results e label (kind_in kinds c) (value_in regs c) refl refl knows (and_left (meets Target (kind_in kinds c)) (list_all (is_met kinds) (map read_of_arg args)) knows.met) (knows.fits.each c.number) width)
+    unless_fits types d n sight live kinds (instr.Call c method args results e label) _ cause.Range (action.Call (target (value_in regs c)) (unwrap_or (method_number d.tables (trait_in sight regs c) method) 0) (map (given_by regs) args))
+    (λ width.
+    (let k = kind_in kinds c in
+    let m = and_left (meets Target k) (list_all (is_met kinds) (map read_of_arg args)) knows.met in
+    let f = knows.fits.each c.number in
+    let same : trait_in sight regs c ≡ trait_of_kind k = ap (λ (seen : Typing). seen.trait_of (target (value_in regs c))) knows.sees.types_same ∙ target_is types k (value_in regs c) m f in
+    let wide = ap (λ o. args_fit (params_of o) (map (given_by regs) args)) (called_is_named d.tables k method m) ∙ (ap (λ t. args_fit (params_of (method_named d.tables t method)) (map (given_by regs) args)) (sym same) ∙ width) in
+    subst (λ t. CallFits types d kinds (instr.Call c method args results e label) (target (value_in regs c)) (unwrap_or (method_number d.tables t method) 0) (map (given_by regs) args)) (sym same)
+    (call_fits types d n sight kinds regs c method args results e label k (value_in regs c) refl refl knows m f wide)))
 fits types d n kinds sight live regs (instr.Ret results) knows =
     unless_fits types d n sight live kinds (instr.Ret results) _ cause.Range (action.Ret (map (result_in regs) results))
     (λ width. return_suits types kinds regs (results_of (method_at d n)) results knows.fits knows.met knows.suits width)
@@ -330,7 +344,7 @@ pub act_fits : (d : Domain) (types : Typing) (sight : Sight) (live : ℕ) (i : I
 act_fits d types sight live i s act keeps sees stand at is =
     let kinds = kinds_at d s.at in
     let kept = keeps_at d s.at at.number (line.Code i) keeps at.here in
-    let means : meaning d s.at kinds sight live s.regs i ≡ Would act = sym (work_is d sight live s at.number i at.here (finds d types s at.number i keeps stand at.here)) ∙ is in
+    let means : meaning d s.at sight live s.regs i ≡ Would act = sym (work_is d sight live s at.number i at.here (finds d types s at.number i keeps stand at.here)) ∙ is in
     subst (FitsWhen types d s.at sight live kinds i) means
     (fits types d s.at kinds sight live s.regs i (record {
       sees = sees;

@@ -4,32 +4,39 @@ use Rattle.std.specs.Prelude.{if◌then◌else◌}
 use Rattle.std.specs.List.{position_or_len}
 use Rattle.std.proofs.lemmas.Option.{slice_get_within}
 use Rattle.rl_defs.specs.declared.bundle.Numbered.{Numbered}
-use Rattle.rl_defs.specs.declared.values.Arg.{Arg}
-use Rattle.rl_defs.specs.declared.frame.Action.{Action}
-use Rattle.rl_defs.specs.declared.frame.Answer.{Answer}
-use Rattle.rl_defs.specs.declared.frame.Answer.TheVariants as answer
+use Rattle.machine_defs.specs.declared.values.Arg.{Arg}
+use Rattle.machine_defs.specs.declared.frame.Action.{Action}
+use Rattle.machine_defs.specs.declared.frame.Answer.{Answer}
+use Rattle.machine_defs.specs.declared.frame.Answer.TheVariants as answer
 use Rattle.rl_defs.specs.declared.code.Instr.{Instr}
 use Rattle.rl_defs.specs.declared.code.DomainLine.{DomainLine}
 use Rattle.rl_defs.specs.declared.code.DomainLine.TheVariants as line
 use Rattle.rl_defs.specs.Words.{same_bytes}
-use Rattle.rl_defs.specs.Sight.{Sight}
+use Rattle.machine_defs.specs.Sight.{Sight}
 use Rattle.rl_defs.specs.DomainValue.{Domain}
 use Rattle.rl_defs.specs.Domains.{Lines, begins_function}
 use Rattle.rl_defs.specs.CodeNames.{Function, function_at, function_behind, function_behind_form, find_label, find_label_from, label_in}
 use Rattle.rl_defs.specs.CodeKinds.{kinds_at}
-use Rattle.rl_defs.specs.CodeRules.{is_inside, label_of, place_of_label}
-use Rattle.rl_defs.specs.CodeFits.{IsOneDomain, KeepsRules, Typing, FitsStand, FitsSight, FitsAnswer, answered, after_answer}
-use Rattle.rl_defs.specs.CodeLaws.{StandsAt, FitsArguments}
-use Rattle.rl_defs.specs.LineRows.{entry_of, entry_at}
-use Rattle.rl_defs.specs.Machine.Frames.{instr_at, instr_of_line}
-use Rattle.rl_defs.specs.Instructions.{Registers, Stand, through, through_form, kept, behind_heads, entered_line, jumped, Outcome, Works, Jumps, Would, Stuck, Settled, Nowhere, Before, go_on, work, settle}
+use Rattle.rl_defs.specs.CodeRules.{is_inside}
+use Rattle.rl_defs.specs.CodeNames.{label_of, place_of_label}
+use Rattle.rl_defs.specs.DomainParts.{IsOneDomain}
+use Rattle.rl_defs.specs.CodeRules.{KeepsRules}
+use Rattle.rl_defs.specs.Registers.{Typing}
+use Rattle.machine_defs.specs.CodeFits.{FitsStand, FitsSight, FitsAnswer}
+use Rattle.machine_defs.specs.Instructions.{answered, after_answer}
+use Rattle.machine_defs.specs.CodeLaws.{StandsAt, FitsArguments}
+use Rattle.rl_defs.specs.CodeNames.{entry_of, entry_at}
+use Rattle.machine_defs.specs.Frames.{instr_at}
+use Rattle.rl_defs.specs.Registers.{Registers, Stand, through, through_form, kept, behind_heads}
+use Rattle.machine_defs.specs.Instructions.{entered_line, jumped, Outcome, Works, Jumps, Would, Stuck, Settled, Nowhere, Before, go_on, work, settle}
 use Rattle.rl_defs.proofs.Places.{drop_at}
 use Rattle.rl_defs.proofs.CodeBlocks.{some_line, inside_below, line_inside, stands_inside}
-use Rattle.rl_defs.proofs.CodeSafe.{Safe, safe_at}
-use Rattle.rl_defs.proofs.CodeStands.{function_next, comes_to_code, stands_next, stands_jumped, has_place, place_head, jumps_to}
-use Rattle.rl_defs.proofs.CodeAnswers.{failed_label}
+use Rattle.machine_defs.proofs.CodeSafe.{Safe, safe_at}
+use Rattle.machine_defs.proofs.CodeStands.{function_next, comes_to_code, stands_next, stands_jumped, has_place, place_head, jumps_to}
+use Rattle.machine_defs.proofs.CodeAnswers.{failed_label}
 use Rattle.machine_laws.proofs.OwnEntries.{passes_first}
 use Rattle.machine_laws.proofs.Contents.{same_list}
+use Rattle.machine_laws.proofs.Parts.{instr_of_line}
 
 -- the instruction of a stand is the one at its line
 pub instr_here : (d : Domain) (i : Instr) (s : Stand) → StandsAt d i s → instr_at d s.at ≡ Some i

@@ -13,19 +13,22 @@ use Rattle.rl_defs.specs.declared.code.CallArg.TheVariants as arg
 use Rattle.rl_defs.specs.declared.code.Instr.{Instr}
 use Rattle.rl_defs.specs.declared.code.Instr.TheVariants as instr
 use Rattle.rl_defs.specs.declared.code.DomainLine.TheVariants as line
-use Rattle.rl_defs.specs.Loans.{count}
-use Rattle.rl_defs.specs.Crossing.{moved_of, moved_by}
-use Rattle.rl_defs.specs.Step.{object_in}
-use Rattle.rl_defs.specs.Machine.History.{objects_in}
-use Rattle.rl_defs.specs.Machine.Sound.{object_held}
-use Rattle.rl_defs.specs.CodeKinds.{Kinds, kind_in, with_kind, is_own, read, read_of_arg, Owned, Target, Passed, leave, leave_all, passed, moved}
-use Rattle.rl_defs.specs.CodeRules.{meets, is_met, reads_are_met, owning, is_among, are_distinct, moves_once}
-use Rattle.rl_defs.specs.CodeFits.{Typing, fits_kind, give_up, given_up, all_given_up}
-use Rattle.rl_defs.specs.Instructions.{Registers, value_in, with_value, given_by, passed_value, result_in}
-use Rattle.rl_defs.proofs.CodeRegisters.{and_left, and_right, Fine, set_fine, is_given, all_given}
+use Rattle.machine_defs.specs.Loans.{count}
+use Rattle.machine_defs.specs.Arguments.{moved_of, moved_by}
+use Rattle.machine_defs.specs.Arguments.{object_of_value}
+use Rattle.machine_defs.specs.Arguments.{objects_in}
+use Rattle.machine_defs.specs.Sound.{object_held}
+use Rattle.rl_defs.specs.CodeKinds.{Kinds, kind_in, with_kind, is_own, read, Passed, leave, leave_all, passed, moved}
+use Rattle.rl_defs.specs.CodeRules.{meets, is_met, owning, is_among, are_distinct, moves_once}
+use Rattle.rl_defs.specs.Registers.{Typing, fits_kind}
+use Rattle.machine_defs.specs.Instructions.{give_up, given_up, all_given_up}
+use Rattle.rl_defs.specs.Registers.{Registers, value_in, with_value}
+use Rattle.machine_defs.specs.Instructions.{given_by, passed_value, result_in}
+use Rattle.machine_defs.proofs.CodeRegisters.{and_left, and_right, Fine, set_fine, is_given, all_given}
 use Rattle.machine_laws.specs.Registers.{own}
 use Rattle.machine_laws.proofs.OwnMarks.{Marked, mark_set, mark_emptied, mark_none, owned_in, owned_set}
 use Rattle.machine_laws.proofs.OwnHeads.{index_other}
+use Rattle.machine_defs.proofs.CodeAnswers.{passed_given}
 
 -- the objects in these registers, one after the other
 abbrev pub objects_of : Registers → List Register → List ℕ
@@ -44,7 +47,7 @@ moved_objects regs (arg.Passed r ∷ args) =
     passed_first (value_in regs r) (moved_of (map (given_by regs) args)) ∙ ap (cons_option (object_held (value_in regs r))) (moved_objects regs args)
 moved_objects regs (arg.Lent r ∷ args) = moved_objects regs args
 
-result_first : (v : Option Value) (xs : List ℕ) → cons_option (object_in (unwrap_or v (value.Num 0))) xs ≡ cons_option (object_held v) xs
+result_first : (v : Option Value) (xs : List ℕ) → cons_option (object_of_value (unwrap_or v (value.Num 0))) xs ≡ cons_option (object_held v) xs
 result_first None xs = refl
 result_first (Some v) xs = refl
 
@@ -195,40 +198,12 @@ others_keep (r ∷ rs) regs q e =
     others_keep rs (given_up regs r) q (or_parts (r.number == q.number) (is_among q rs) e).1
     ∙ other_given regs r q (value_in regs r) (eqb-false r.number q.number (or_parts (r.number == q.number) (is_among q rs) e).0)
 
--- an instruction moves no lent object, and none twice
-passed_given : (k : RegKind) → meets Passed k ≡ true → is_given k ≡ true
-passed_given held.Num m = refl
-passed_given (held.Own s) m = refl
-passed_given (held.Cap t) m = refl
-passed_given k m = cc
-
-args_given : (kinds : Kinds) (args : List CallArg) → list_all (is_met kinds) (map read_of_arg args) ≡ true → all_given kinds (passed args) ≡ true
-args_given kinds [] m = refl
-args_given kinds (arg.Passed r ∷ args) m =
-    rw (passed_given (kind_in kinds r) (and_left (meets Passed (kind_in kinds r)) (list_all (is_met kinds) (map read_of_arg args)) m))
-    (args_given kinds args (and_right (meets Passed (kind_in kinds r)) (list_all (is_met kinds) (map read_of_arg args)) m))
-args_given kinds (arg.Lent r ∷ args) m = args_given kinds args (and_right (is_met kinds (read_of_arg (arg.Lent r))) (list_all (is_met kinds) (map read_of_arg args)) m)
-
 results_given : (kinds : Kinds) (rs : List Register) → list_all (is_met kinds) (map (λ r. read r Passed) rs) ≡ true → all_given kinds rs ≡ true
 results_given kinds [] m = refl
 results_given kinds (r ∷ rs) m =
     let rest = list_all (is_met kinds) (map (λ r. read r Passed) rs) in
     rw (passed_given (kind_in kinds r) (and_left (meets Passed (kind_in kinds r)) rest m))
     (results_given kinds rs (and_right (meets Passed (kind_in kinds r)) rest m))
-
-owned_given : (k : RegKind) → meets Owned k ≡ true → (is_given k && true) ≡ true
-owned_given (held.Own s) m = refl
-owned_given k m = cc
-
-pub moved_given : (kinds : Kinds) (i : Instr) → reads_are_met kinds i ≡ true → all_given kinds (moved i) ≡ true
-moved_given kinds (instr.Move a b) m = owned_given (kind_in kinds b) (and_left (meets Owned (kind_in kinds b)) true m)
-moved_given kinds (instr.Drop a) m = owned_given (kind_in kinds a) (and_left (meets Owned (kind_in kinds a)) true m)
-moved_given kinds (instr.Put slot a) m = owned_given (kind_in kinds a) (and_left (meets Owned (kind_in kinds a)) true m)
-moved_given kinds (instr.Hang o place v) m =
-    owned_given (kind_in kinds v) (and_left (meets Owned (kind_in kinds v)) true (and_right (meets Owned (kind_in kinds o)) (meets Owned (kind_in kinds v) && true) m))
-moved_given kinds (instr.Call c method args results e label) m = args_given kinds args (and_right (is_met kinds (read c Target)) (list_all (is_met kinds) (map read_of_arg args)) m)
-moved_given kinds (instr.Ret results) m = results_given kinds results m
-moved_given kinds i m = refl
 
 single : (r : Register) (b : Bool) → are_distinct (cond b (r ∷ []) []) ≡ true
 single r true = refl

@@ -1,7 +1,7 @@
 -- Heads and jumps leave a frame its own objects.
-use Rattle.std.proofs.Common.{◌≡◌, refl, sym, ◌∙◌, ap, subst, ℕ, zero, suc, ◌+◌, ◌-◌, ◌<◌, ◌==◌, Bool, true, false, not, ◌||◌, List, [], ◌∷◌, length, map, drop, Option, Some, None, slice_get, arith, true≢false, zero-add, inl, inr}
+use Rattle.std.proofs.Common.{◌≡◌, refl, sym, ◌∙◌, ap, subst, ℕ, zero, suc, ◌+◌, ◌-◌, ◌<◌, ◌==◌, Bool, true, false, not, ◌||◌, List, [], ◌∷◌, length, map, drop, Option, Some, None, slice_get, arith, zero-add, inl, inr}
 use Rattle.std.specs.Prelude.{slice_set, if◌then◌else◌}
-use Rattle.std.specs.List.{slice_index_or, list_all}
+use Rattle.std.specs.List.{slice_index_or}
 use Rattle.std.proofs.lemmas.Bool.{cases_eq, ne_eqb, not-true, or_parts, eqb-false}
 use Rattle.std.proofs.lemmas.List.{get_or-set_same, get_or-set_other}
 use Rattle.rl_defs.specs.declared.values.Value.{Value}
@@ -14,15 +14,19 @@ use Rattle.rl_defs.specs.declared.code.DomainLine.{DomainLine}
 use Rattle.rl_defs.specs.declared.code.DomainLine.TheVariants as line
 use Rattle.rl_defs.specs.declared.tables.Tables.{Tables}
 use Rattle.rl_defs.specs.DomainValue.{Domain}
-use Rattle.rl_defs.specs.Loans.{count}
+use Rattle.machine_defs.specs.Loans.{count}
 use Rattle.rl_defs.specs.CodeKinds.{Kinds, no_kinds, kinds_at, kind_in, with_kind, is_own, Write, put_all, listed, listed_kind, head_kinds, after, at_label}
-use Rattle.rl_defs.specs.CodeRules.{same_kind, owns_nothing, without, enters, is_reached, enters_at, enters_line, label_of, place_of_label}
-use Rattle.rl_defs.specs.CodeFits.{KeepsRules, Typing, Fits, FitsStand}
-use Rattle.rl_defs.specs.Instructions.{Registers, Stand, is_listed, kept, through, behind_heads, entered, entered_line, jumped}
+use Rattle.rl_defs.specs.CodeRules.{same_kind, owns_nothing, without, enters, is_reached, enters_at, enters_line}
+use Rattle.rl_defs.specs.CodeNames.{label_of, place_of_label}
+use Rattle.rl_defs.specs.CodeRules.{KeepsRules}
+use Rattle.rl_defs.specs.Registers.{Typing, Fits}
+use Rattle.machine_defs.specs.CodeFits.{FitsStand}
+use Rattle.rl_defs.specs.Registers.{Registers, Stand, is_listed, kept, through, behind_heads}
+use Rattle.machine_defs.specs.Instructions.{behind_head, entered_line, jumped}
 use Rattle.rl_defs.proofs.Places.{drop_at}
-use Rattle.rl_defs.proofs.CodeRegisters.{and_left, and_right, same_is, keep_at, length-no_kinds}
+use Rattle.machine_defs.proofs.CodeRegisters.{and_left, and_right, same_is, keep_at, length-no_kinds, all_same}
 use Rattle.rl_defs.proofs.CodeBlocks.{some_line}
-use Rattle.rl_defs.proofs.CodeStands.{keeps_at, kinds_next, stands_behind, has_place, place_head, jumps_to}
+use Rattle.machine_defs.proofs.CodeStands.{keeps_at, kinds_next, stands_behind, has_place, place_head, jumps_to, or_other}
 use Rattle.machine_laws.specs.Registers.{own}
 use Rattle.machine_laws.proofs.OwnCounts.{own_kept}
 use Rattle.machine_laws.proofs.OwnMarks.{mark, Marked, mark_none, spare_in}
@@ -30,9 +34,6 @@ use Rattle.std.proofs.Math.ListN.{length-set}
 
 pub index_other : {A : Type 0} (xs : List A) (a r : ℕ) (x other : A) → (a ≡ r → ⊥) → slice_index_or (slice_set xs a x) r other ≡ slice_index_or xs r other
 index_other xs a r x other ne = get_or-set_other xs a r x other (λ e. ne (sym e))
-
-abbrev all_same : Kinds → List Write → Bool
-all_same kinds ws = list_all (λ w. same_kind w.kind (kind_in kinds w.register)) ws
 
 abbrev registers : List HeadItem → List Register
 registers items = map (λ item. item.register) items
@@ -113,10 +114,6 @@ behind_own types lent d n number label items kinds regs here enter fit marked = 
 stays_own : (lent : List ℕ) (d : Domain) (s : Stand) → Marked lent (kinds_at d s.at) s.regs → Onward lent d s.regs s
 stays_own lent d s marked = record { marked = marked; same = λ p. refl }
 
-or_other : (a b : Bool) → (not a || b) ≡ true → a ≡ true → b ≡ true
-or_other true b h e = h
-or_other false b h e = absurd (true≢false (sym e))
-
 through_own_form : (d : Domain) (types : Typing) (lent : List ℕ) (n number : ℕ) (form : DomainLine) (regs : Registers) → KeepsRules d → FitsStand types d (record { at = n; regs = regs }) → Marked lent (kinds_at d n) regs → slice_get d.lines n ≡ Some (record { line = number; form = form }) → ((regs' : Registers) → FitsStand types d (record { at = n + 1; regs = regs' }) → Marked lent (kinds_at d (n + 1)) regs' → Onward lent d regs' (through (drop (n + 1) d.lines) (n + 1) regs')) → Onward lent d regs (through (record { line = number; form = form } ∷ drop (n + 1) d.lines) n regs)
 through_own_form d types lent n number (line.Head label items) regs keeps stand marked here further =
     let enter = or_other (is_reached d n) (enters d items (kinds_at d n)) (keeps_at d n number (line.Head label items) keeps here).head stand.reached in
@@ -139,7 +136,7 @@ heads_own d types lent s keeps stand marked =
     through_own d types lent (length d.lines - s.at) s.at s.regs keeps (omega arith) stand marked
 
 -- control that jumps
-label_own : (d : Domain) (types : Typing) (lent : List ℕ) (n number p : ℕ) (i : Instr) (regs : Registers) → KeepsRules d → slice_get d.lines n ≡ Some (record { line = number; form = line.Code i }) → place_of_label d n (label_of i) ≡ Some p → Fits types (at_label (kinds_at d n) i) regs → Marked lent (at_label (kinds_at d n) i) regs → Onward lent d regs (entered d p regs)
+label_own : (d : Domain) (types : Typing) (lent : List ℕ) (n number p : ℕ) (i : Instr) (regs : Registers) → KeepsRules d → slice_get d.lines n ≡ Some (record { line = number; form = line.Code i }) → place_of_label d n (label_of i) ≡ Some p → Fits types (at_label (kinds_at d n) i) regs → Marked lent (at_label (kinds_at d n) i) regs → Onward lent d regs (behind_head d p regs)
 label_own d types lent n number p i regs keeps here at fit marked =
     let head = place_head d n (label_of i) p at in
     let enter : enters d head.items (at_label (kinds_at d n) i) ≡ true =

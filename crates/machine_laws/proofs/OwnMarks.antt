@@ -8,11 +8,11 @@ use Rattle.rl_defs.specs.declared.values.Value.TheVariants as value
 use Rattle.rl_defs.specs.declared.code.Register.{Register}
 use Rattle.rl_defs.specs.declared.code.RegKind.{RegKind}
 use Rattle.rl_defs.specs.declared.code.RegKind.TheVariants as held
-use Rattle.rl_defs.specs.Loans.{count}
-use Rattle.rl_defs.specs.Crossing.{has}
+use Rattle.machine_defs.specs.Loans.{count}
+use Rattle.machine_defs.specs.Arguments.{has}
 use Rattle.rl_defs.specs.CodeKinds.{Kinds, kind_in, is_own}
-use Rattle.rl_defs.specs.CodeFits.{Typing, fits_kind, Fits}
-use Rattle.rl_defs.specs.Instructions.{Registers, value_in, with_value}
+use Rattle.rl_defs.specs.Registers.{Typing, fits_kind, Fits}
+use Rattle.rl_defs.specs.Registers.{Registers, value_in, with_value}
 use Rattle.machine_laws.specs.Registers.{own, Parted}
 use Rattle.machine_laws.proofs.OwnCounts.{weight, weight_of, own_set}
 

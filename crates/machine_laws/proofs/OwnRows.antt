@@ -1,11 +1,11 @@
 -- What the top frame has of its own changes, and nothing hangs otherwise than the row says.
 use Rattle.std.proofs.Common.{◌≡◌, ℕ, suc, ◌+◌, ◌<◌, ◌≤◌, ◌==◌, Bool, true, false, cond, ◌⊎◌, List, [], ◌∷◌, Option, Some, None, refl, sym, ◌∙◌, arith, inl, inr, length}
 use Rattle.std.proofs.lemmas.Bool.{cases_eq, cases_Bool}
-use Rattle.rl_defs.specs.declared.values.Owner.{Owner}
-use Rattle.rl_defs.specs.declared.values.Owner.TheVariants as owner
-use Rattle.rl_defs.specs.declared.load.Load.{Load}
-use Rattle.rl_defs.specs.State.{Placement, Root, Hung, lives}
-use Rattle.rl_defs.specs.Loans.{count}
+use Rattle.machine_defs.specs.declared.values.Owner.{Owner}
+use Rattle.machine_defs.specs.declared.values.Owner.TheVariants as owner
+use Rattle.rl_defs.specs.declared.load.LoadRows.{LoadRows}
+use Rattle.machine_defs.specs.State.{Placement, Root, Hung, lives}
+use Rattle.machine_defs.specs.Loans.{count}
 use Rattle.machine_laws.specs.Ledger.{same_owner, LedgerFrame, Ledger, at, alive, loans}
 use Rattle.machine_laws.specs.LedgerRows.{Runs, Exchanged, remove}
 use Rattle.machine_laws.specs.LedgerSound.{slots_held, is_of, Covered, Owned}
@@ -16,7 +16,7 @@ use Rattle.machine_laws.proofs.OneStack.{at_each, lent_loans, stack_changed}
 use Rattle.machine_laws.proofs.Rows.{at_same, at_other}
 
 -- a sound state before any change
-pub unswept : (L : Load) (s : Ledger) → Owned L s → BeforeSweep L s
+pub unswept : (L : LoadRows) (s : Ledger) → Owned L s → BeforeSweep L s
 unswept L s own = record {
   once = own.once;
   hung = λ o p k q j a b. let r = own.hung o p k a in cc (r.1, b);
@@ -29,7 +29,7 @@ unswept L s own = record {
 }
 
 -- an instance ends
-pub ending : (L : Load) (s : Ledger) (i : ℕ) → Owned L s → BeforeSweep L (record s { live = at i false s.live })
+pub ending : (L : LoadRows) (s : Ledger) (i : ℕ) → Owned L s → BeforeSweep L (record s { live = at i false s.live })
 ending L s i own = record {
   once = λ w o lives. own.once w o (was w lives);
   hung = (unswept L s own).hung;
@@ -49,7 +49,7 @@ ending L s i own = record {
     ]
 
 -- the top frame's own objects and their seats change
-module _ (L : Load) (s : Ledger) (own : Owned L s) (t : ℕ) (f : LedgerFrame) (fs : List LedgerFrame) (runs : Runs L s t f fs) (mine : List ℕ)
+module _ (L : LoadRows) (s : Ledger) (own : Owned L s) (t : ℕ) (f : LedgerFrame) (fs : List LedgerFrame) (runs : Runs L s t f fs) (mine : List ℕ)
     (seat' : ℕ → Option Placement) (slots' : ℕ → List (Option ℕ)) (next' : ℕ)
     (balance : (w : Owner) (o : ℕ) → alive s.live w ≡ true → slots_held slots' w o + cond (same_owner w f.party) (count o mine) 0 + cond (is_of w (s.seat o)) 1 0 ≡ slots_held s.slots w o + cond (same_owner w f.party) (count o f.own) 0 + cond (is_of w (seat' o)) 1 0)
     (keeps : (o : ℕ) → 0 < loans L s o → seat' o ≡ s.seat o)
@@ -87,7 +87,7 @@ Change f mine before after o =
     ⊎ (((count o mine ≡ count o f.own + 1) × (after ≡ Some (Root f.party)) × ((v : Owner) → before ≡ Some (Root v) → ⊥))
     ⊎ ((count o mine + 1 ≡ count o f.own) × ((v : Owner) → after ≡ Some (Root v) → ⊥)))
 
-module _ (L : Load) (s : Ledger) (own : Owned L s) (t : ℕ) (f : LedgerFrame) (fs : List LedgerFrame) (runs : Runs L s t f fs) (mine : List ℕ)
+module _ (L : LoadRows) (s : Ledger) (own : Owned L s) (t : ℕ) (f : LedgerFrame) (fs : List LedgerFrame) (runs : Runs L s t f fs) (mine : List ℕ)
     (seat' : ℕ → Option Placement) (next' : ℕ)
     (change : (o : ℕ) → Change f mine (s.seat o) (seat' o) o) where
   change_even : (w : Owner) (o : ℕ) → slots_held s.slots w o + cond (same_owner w f.party) (count o mine) 0 + cond (is_of w (s.seat o)) 1 0 ≡ slots_held s.slots w o + cond (same_owner w f.party) (count o f.own) 0 + cond (is_of w (seat' o)) 1 0
@@ -119,7 +119,7 @@ module _ (L : Load) (s : Ledger) (own : Owned L s) (t : ℕ) (f : LedgerFrame) (
 pub at_flat : (o : ℕ) (x : Option Placement) (seat : ℕ → Option Placement) → ((p k : ℕ) → x ≡ Some (Hung p k) → ⊥) → (q p k : ℕ) → at o x seat q ≡ Some (Hung p k) → seat q ≡ Some (Hung p k)
 at_flat o x seat flat q p k = at_each (λ j y. y ≡ Some (Hung p k) → seat j ≡ Some (Hung p k)) o x seat q (λ e. absurd (flat p k e)) (λ ne e. e)
 
-module _ (L : Load) (s : Ledger) (own : Owned L s) (t : ℕ) (f : LedgerFrame) (fs : List LedgerFrame) (runs : Runs L s t f fs) (mine : List ℕ) where
+module _ (L : LoadRows) (s : Ledger) (own : Owned L s) (t : ℕ) (f : LedgerFrame) (fs : List LedgerFrame) (runs : Runs L s t f fs) (mine : List ℕ) where
   pub new_row : Exchanged f.own [] (s.next_object ∷ []) mine
       → BeforeSweepIn (length L.clients) s.live (at t (record f { own = mine } ∷ fs) s.stack) (at s.next_object (Some (Root f.party)) s.seat) s.slots (suc s.next_object)
   new_row gains = changed_flat L s own t f fs runs mine (at s.next_object (Some (Root f.party)) s.seat) (suc s.next_object)
@@ -166,7 +166,7 @@ module _ (L : Load) (s : Ledger) (own : Owned L s) (t : ℕ) (f : LedgerFrame) (
       (λ q le. at_each (λ j y. s.next_object ≤ j → y ≡ None) v (Some (Root f.party)) s.seat q (λ le'. absurd (let none = own.fresh v le' in cc (is, none))) (λ ne le'. own.fresh q le') le)
 
 -- a frame that runs has object an at most once
-pub at_most_once : (L : Load) (s : Ledger) (own : Owned L s) (t : ℕ) (f : LedgerFrame) (fs : List LedgerFrame) (runs : Runs L s t f fs) (o : ℕ) → count o f.own ≤ 1
+pub at_most_once : (L : LoadRows) (s : Ledger) (own : Owned L s) (t : ℕ) (f : LedgerFrame) (fs : List LedgerFrame) (runs : Runs L s t f fs) (o : ℕ) → count o f.own ≤ 1
 at_most_once L s own t f fs runs o = elim (cases_eq (count o f.own) 0) [
   | inl none ↦ omega arith
   | inr some ↦
@@ -177,7 +177,7 @@ at_most_once L s own t f fs runs o = elim (cases_eq (count o f.own) 0) [
       omega arith
 ]
 
-module _ (L : Load) (s : Ledger) (own : Owned L s) (t : ℕ) (f : LedgerFrame) (fs : List LedgerFrame) (runs : Runs L s t f fs) (mine : List ℕ) where
+module _ (L : LoadRows) (s : Ledger) (own : Owned L s) (t : ℕ) (f : LedgerFrame) (fs : List LedgerFrame) (runs : Runs L s t f fs) (mine : List ℕ) where
   pub refuse_row : (os : List ℕ) → Exchanged f.own os [] mine
       → BeforeSweepIn (length L.clients) s.live (at t (record f { own = mine } ∷ fs) s.stack) (remove os s.seat) s.slots s.next_object
   refuse_row os loses = changed_flat L s own t f fs runs mine (remove os s.seat) s.next_object

@@ -1,24 +1,13 @@
 -- What a line of domain code keeps of the rules on own objects.
-use Rattle.std.proofs.Common.{◌≡◌, refl, ℕ, Bool, true, false, not, ◌&&◌, ◌||◌, ◌==◌, List, [], ◌∷◌, Some, slice_get}
+use Rattle.std.proofs.Common.{◌≡◌, ℕ, true, List, [], ◌∷◌, Some, slice_get}
 use Rattle.std.specs.List.{list_any}
-use Rattle.std.proofs.lemmas.Bool.{eq-eqb, or_right}
+use Rattle.std.proofs.lemmas.Bool.{or_right}
 use Rattle.rl_defs.specs.declared.code.DomainLine.{DomainLine}
 use Rattle.rl_defs.specs.DomainValue.{Domain}
 use Rattle.rl_defs.specs.CodeKinds.{kinds_at}
 use Rattle.rl_defs.specs.CodeRules.{Sentence, sentences, spares_objects, leaves_nothing, moves_once, moves_or_lends}
-use Rattle.rl_defs.specs.CodeFits.{KeepsRules}
-
--- every sentence of a list is kept
-abbrev AllKept : List Sentence → Type 0
-AllKept [] = Unit {0}
-AllKept (s ∷ ss) = (s.1 ≡ true) × AllKept ss
-
-abbrev broken : ℕ → Sentence → Bool
-broken rule s = not s.1 && (s.0 == rule)
-
-here_kept : (rule : ℕ) (b rest : Bool) → (((not b && (rule == rule)) || rest) ≡ true → ⊥) → b ≡ true
-here_kept rule true rest none = refl
-here_kept rule false rest none = absurd (none (rw (eq-eqb rule rule refl) refl))
+use Rattle.rl_defs.specs.CodeRules.{KeepsRules}
+use Rattle.machine_defs.proofs.CodeStands.{AllKept, broken, here_kept}
 
 all_kept : (ss : List Sentence) → ((rule : ℕ) → list_any (broken rule) ss ≡ true → ⊥) → AllKept ss
 all_kept [] none = tt

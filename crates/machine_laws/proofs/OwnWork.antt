@@ -5,9 +5,9 @@ use Rattle.std.specs.List.{list_all}
 use Rattle.std.proofs.lemmas.Bool.{not-true}
 use Rattle.rl_defs.specs.declared.values.Value.{Value}
 use Rattle.rl_defs.specs.declared.values.Value.TheVariants as value
-use Rattle.rl_defs.specs.declared.values.Cause.{Cause}
-use Rattle.rl_defs.specs.declared.values.Cause.TheVariants as cause
-use Rattle.rl_defs.specs.declared.frame.Action.{Action}
+use Rattle.machine_defs.specs.declared.values.Cause.{Cause}
+use Rattle.machine_defs.specs.declared.values.Cause.TheVariants as cause
+use Rattle.machine_defs.specs.declared.frame.Action.{Action}
 use Rattle.rl_defs.specs.declared.code.Register.{Register}
 use Rattle.rl_defs.specs.declared.code.RegKind.{RegKind}
 use Rattle.rl_defs.specs.declared.code.RegKind.TheVariants as held
@@ -15,18 +15,21 @@ use Rattle.rl_defs.specs.declared.code.Instr.{Instr}
 use Rattle.rl_defs.specs.declared.code.Instr.TheVariants as instr
 use Rattle.rl_defs.specs.declared.code.DomainLine.TheVariants as line
 use Rattle.rl_defs.specs.declared.tables.Kind.{Kind}
-use Rattle.rl_defs.specs.Sight.{Sight}
+use Rattle.machine_defs.specs.Sight.{Sight}
 use Rattle.rl_defs.specs.DomainValue.{Domain}
-use Rattle.rl_defs.specs.Loans.{count}
+use Rattle.machine_defs.specs.Loans.{count}
 use Rattle.rl_defs.specs.CodeKinds.{Kinds, kinds_at, kind_in, with_kind, is_own, Copied, Owned, leave, left, after, at_label}
-use Rattle.rl_defs.specs.CodeRules.{meets, reads_are_met, operands_suit, written, spares, object_struct}
-use Rattle.rl_defs.specs.CodeFits.{KeepsRules, Typing, Fits, FitsStand, FitsSight}
-use Rattle.rl_defs.specs.CodeLaws.{StandsAt, Acts}
-use Rattle.rl_defs.specs.Instructions.{Registers, value_in, with_value, with_number, number_in, object_in, cell_kind, Outcome, Works, Jumps, Would, Stuck, number_or_trap, unless_trap, setting, calculate, meaning, work, Stand, behind_heads, jumped, Settled, Nowhere, Before, go_on, settle}
-use Rattle.rl_defs.proofs.CodeRegisters.{and_left, Fine, set_fine}
-use Rattle.rl_defs.proofs.CodeSafe.{Safe, safe_at, owned_leaves, work_is, finds}
-use Rattle.rl_defs.proofs.CodeStands.{keeps_at, comes_to_code, stands_next, stands_jumped}
-use Rattle.rl_defs.proofs.CodeWidths.{length-kinds_at}
+use Rattle.rl_defs.specs.CodeRules.{meets, reads_are_met, operands_suit, written, spares}
+use Rattle.rl_defs.specs.CodeRules.{KeepsRules}
+use Rattle.rl_defs.specs.Registers.{Typing, Fits}
+use Rattle.machine_defs.specs.CodeFits.{FitsStand, FitsSight}
+use Rattle.machine_defs.specs.CodeLaws.{StandsAt, Acts}
+use Rattle.rl_defs.specs.Registers.{Registers, value_in, with_value, Stand, behind_heads}
+use Rattle.machine_defs.specs.Instructions.{with_number, number_in, object_in, struct_in, cell_kind, Outcome, Works, Jumps, Would, Stuck, number_or_trap, unless_trap, setting, calculate, meaning, work, jumped, Settled, Nowhere, Before, go_on, settle}
+use Rattle.machine_defs.proofs.CodeRegisters.{and_left, Fine, set_fine}
+use Rattle.machine_defs.proofs.CodeSafe.{Safe, safe_at, owned_leaves, work_is, finds, owned_is as owned_own}
+use Rattle.machine_defs.proofs.CodeStands.{keeps_at, comes_to_code, stands_next, stands_jumped}
+use Rattle.machine_defs.proofs.CodeWidths.{length-kinds_at}
 use Rattle.machine_laws.specs.Registers.{own, Parted}
 use Rattle.machine_laws.proofs.OwnCounts.{weight}
 use Rattle.machine_laws.proofs.OwnMarks.{mark, Marked, mark_set, marked_of, parted_of, spare_in, spare_set, owned_in, owned_set, owned_weight}
@@ -74,10 +77,6 @@ copied_spare (held.Lent s) m = refl
 copied_spare (held.Cap t) m = refl
 copied_spare k m = cc
 
-pub owned_own : (k : RegKind) → meets Owned k ≡ true → is_own k ≡ true
-owned_own (held.Own s) m = refl
-owned_own k m = cc
-
 move_leaves : (types : Typing) (lent : List ℕ) (kinds : Kinds) (regs : Registers) (a b : Register) → Fine types kinds regs → Marked lent kinds regs → meets Owned (kind_in kinds b) ≡ true → (spares (leave kinds b) a && true) ≡ true → Marked lent (with_kind (leave kinds b) a (kind_in kinds b)) (with_value (with_value regs b None) a (value_in regs b)) × Same lent regs (with_value (with_value regs b None) a (value_in regs b))
 move_leaves types lent kinds regs a b fine marked m spared =
     let is = owned_leaves kinds b m in
@@ -91,7 +90,7 @@ move_leaves types lent kinds regs a b fine marked m spared =
       λ p. omega (arith, owned_set types lent kinds regs p b None fine.fits marked o, spare_set types lent emptied given p a (value_in regs b) fit marks spare, owned_weight lent p (value_in regs b) o),
     )
 
-leaves : (types : Typing) (lent : List ℕ) (d : Domain) (n : ℕ) (kinds : Kinds) (sight : Sight) (live : ℕ) (regs : Registers) (i : Instr) → Fine types kinds regs → Marked lent kinds regs → reads_are_met kinds i ≡ true → list_all (spares (left kinds i)) (written i) ≡ true → Leaves lent d kinds i regs (meaning d n kinds sight live regs i)
+leaves : (types : Typing) (lent : List ℕ) (d : Domain) (n : ℕ) (kinds : Kinds) (sight : Sight) (live : ℕ) (regs : Registers) (i : Instr) → Fine types kinds regs → Marked lent kinds regs → reads_are_met kinds i ≡ true → list_all (spares (left kinds i)) (written i) ≡ true → Leaves lent d kinds i regs (meaning d n sight live regs i)
 leaves types lent d n kinds sight live regs (instr.Const a k) fine marked met spared = put_leaves types lent kinds regs a held.Num (Some (value.Num k)) fine.fits marked spared refl (λ p. refl)
 leaves types lent d n kinds sight live regs (instr.Copy a b) fine marked met spared =
     put_leaves types lent kinds regs a (kind_in kinds b) (value_in regs b) fine.fits marked spared (marked b.number)
@@ -108,7 +107,7 @@ leaves types lent d n kinds sight live regs (instr.DevSize a) fine marked met sp
 leaves types lent d n kinds sight live regs (instr.New a ty) fine marked met spared = would_leaves lent d kinds (instr.New a ty) regs _ cause.HeapFull _
 leaves types lent d n kinds sight live regs (instr.Drop a) fine marked met spared = tt
 leaves types lent d n kinds sight live regs (instr.Set o i v) fine marked met spared =
-    set_leaves lent d kinds (instr.Set o i v) regs (sight.cell (object_in regs o) (number_in regs i)) (cell_kind d (object_struct (kind_in kinds o)) (number_in regs i)) (object_in regs o) (number_in regs i) (number_in regs v)
+    set_leaves lent d kinds (instr.Set o i v) regs (sight.cell (object_in regs o) (number_in regs i)) (cell_kind d.tables (struct_in sight regs o) (number_in regs i)) (object_in regs o) (number_in regs i) (number_in regs v)
 leaves types lent d n kinds sight live regs (instr.Wput i v) fine marked met spared = would_leaves lent d kinds (instr.Wput i v) regs _ cause.Bounds _
 leaves types lent d n kinds sight live regs (instr.Take a slot) fine marked met spared = would_leaves lent d kinds (instr.Take a slot) regs _ cause.Empty _
 leaves types lent d n kinds sight live regs (instr.Put slot a) fine marked met spared = would_leaves lent d kinds (instr.Put slot a) regs _ cause.Full _

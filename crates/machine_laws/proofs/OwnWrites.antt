@@ -1,35 +1,36 @@
 -- What the code of a frame writes into cells fits them, and blocks go with objects that hold one.
-use Rattle.std.proofs.Common.{◌≡◌, refl, sym, ◌∙◌, ap, subst, ℕ, ◌==◌, Bool, true, false, ◌&&◌, [], ◌∷◌, drop, Option, Some, None, slice_get, is_some}
+use Rattle.std.proofs.Common.{◌≡◌, unwrap_or, refl, sym, ◌∙◌, ap, subst, ℕ, ◌==◌, Bool, true, false, ◌&&◌, [], ◌∷◌, drop, Option, Some, None, slice_get, is_some}
 use Rattle.std.specs.Prelude.{if◌then◌else◌}
-use Rattle.std.proofs.lemmas.Bool.{eqb-true}
-use Rattle.rl_defs.specs.declared.values.Value.{Value}
-use Rattle.rl_defs.specs.declared.values.Value.TheVariants as value
-use Rattle.rl_defs.specs.declared.values.Cause.{Cause}
-use Rattle.rl_defs.specs.declared.values.Cause.TheVariants as cause
-use Rattle.rl_defs.specs.declared.frame.Action.{Action}
-use Rattle.rl_defs.specs.declared.frame.Action.TheVariants as action
+use Rattle.machine_defs.specs.declared.values.Cause.{Cause}
+use Rattle.machine_defs.specs.declared.values.Cause.TheVariants as cause
+use Rattle.machine_defs.specs.declared.frame.Action.{Action}
+use Rattle.machine_defs.specs.declared.frame.Action.TheVariants as action
 use Rattle.rl_defs.specs.declared.code.Register.{Register}
-use Rattle.rl_defs.specs.declared.code.RegKind.{RegKind}
-use Rattle.rl_defs.specs.declared.code.RegKind.TheVariants as held
 use Rattle.rl_defs.specs.declared.code.Instr.{Instr}
 use Rattle.rl_defs.specs.declared.code.Instr.TheVariants as instr
 use Rattle.rl_defs.specs.declared.code.DomainLine.TheVariants as line
 use Rattle.rl_defs.specs.declared.tables.Width.TheVariants as width
 use Rattle.rl_defs.specs.declared.tables.Kind.{Kind}
 use Rattle.rl_defs.specs.declared.tables.Kind.TheVariants as kind
-use Rattle.rl_defs.specs.Sight.{Sight}
+use Rattle.machine_defs.specs.Sight.{Sight}
 use Rattle.rl_defs.specs.DomainValue.{Domain}
 use Rattle.rl_defs.specs.CodeNames.{cells_of, struct_number}
 use Rattle.rl_defs.specs.CodeKinds.{Kinds, kinds_at, kind_in, Owned, Object, Number}
-use Rattle.rl_defs.specs.CodeRules.{meets, reads_are_met, object_struct, holds_block, operands_suit}
-use Rattle.rl_defs.specs.CodeFits.{KeepsRules, Typing, fits_kind, Fits, FitsStand, FitsSight, is_number_cell}
-use Rattle.rl_defs.specs.CodeLaws.{StandsAt}
+use Rattle.rl_defs.specs.CodeRules.{meets, reads_are_met, holds_block, operands_suit}
+use Rattle.rl_defs.specs.CodeKinds.{object_struct}
+use Rattle.rl_defs.specs.CodeRules.{KeepsRules}
+use Rattle.rl_defs.specs.Registers.{Typing, Fits}
+use Rattle.machine_defs.specs.CodeFits.{FitsStand, FitsSight, is_number_cell}
+use Rattle.machine_defs.specs.CodeLaws.{StandsAt}
 use Rattle.rl_defs.specs.NativeShapes.{has_cells}
-use Rattle.rl_defs.specs.Machine.NativeFits.{numbers_suit}
-use Rattle.rl_defs.specs.Instructions.{Registers, value_in, object, object_in, number_in, fits as within_width, kind_of_cell, cell_kind, slot_number, Outcome, Works, Jumps, Would, number_or_trap, unless_trap, setting, calculate, meaning, work, Stand}
-use Rattle.rl_defs.proofs.CodeRegisters.{and_left, and_right}
-use Rattle.rl_defs.proofs.CodeSafe.{work_is, finds}
-use Rattle.rl_defs.proofs.CodeStands.{keeps_at}
+use Rattle.rl_defs.specs.Widths.{numbers_suit}
+use Rattle.rl_defs.specs.Registers.{Registers, value_in, Stand}
+use Rattle.machine_defs.specs.Instructions.{object, object_in, number_in, number_fits as within_width, struct_in, cell_kind, Outcome, Works, Jumps, Would, number_or_trap, unless_trap, setting, calculate, meaning, work}
+use Rattle.rl_defs.specs.CodeNames.{slot_number}
+use Rattle.machine_defs.proofs.CodeTypes.{object_is, owned_object}
+use Rattle.machine_defs.proofs.CodeRegisters.{and_left, and_right}
+use Rattle.machine_defs.proofs.CodeSafe.{work_is, finds}
+use Rattle.machine_defs.proofs.CodeStands.{keeps_at}
 use Rattle.machine_laws.proofs.OwnWork.{met_at}
 use Rattle.machine_laws.proofs.CellsFit.{one_suits}
 
@@ -56,29 +57,19 @@ jz_writes : (types : Typing) (d : Domain) (regs : Registers) (b : Bool) → Writ
 jz_writes types d regs true = tt
 jz_writes types d regs false = tt
 
--- the struct of an object in a register
-object_is : (types : Typing) (k : RegKind) (v : Option Value) → meets Object k ≡ true → fits_kind types k v ≡ true → object_struct k ≡ Some (types.struct_of (object v))
-object_is types (held.Own s) (Some (value.Obj o)) m f = ap (λ n. Some n) (sym (eqb-true (types.struct_of o) s f))
-object_is types (held.Lent s) (Some (value.Obj o)) m f = ap (λ n. Some n) (sym (eqb-true (types.struct_of o) s f))
-object_is types k v m f = absurd (cc)
-
-owned_object : (k : RegKind) → meets Owned k ≡ true → meets Object k ≡ true
-owned_object (held.Own s) m = refl
-owned_object k m = absurd (cc)
-
-number_kind : (k : Option Kind) (v : ℕ) → is_number_cell k ≡ true → within_width (kind_of_cell k) v ≡ true → (j : Kind) × (k ≡ Some j) × (Rattle.rl_defs.specs.Machine.NativeFits.number_suits j v ≡ true)
+number_kind : (k : Option Kind) (v : ℕ) → is_number_cell k ≡ true → within_width (unwrap_or k (kind.Num width.W64)) v ≡ true → (j : Kind) × (k ≡ Some j) × (Rattle.rl_defs.specs.Widths.number_suits j v ≡ true)
 number_kind (Some (kind.Num w)) v number fits = (kind.Num w, refl, fits)
 number_kind (Some (kind.Own s)) v number fits = absurd (cc)
 number_kind (Some (kind.Lent s)) v number fits = absurd (cc)
 number_kind (Some (kind.Cap t)) v number fits = absurd (cc)
 number_kind None v number fits = absurd (cc)
 
-set_writes : (types : Typing) (d : Domain) (sight : Sight) (k : Option ℕ) (q place v : ℕ) (cell : Option ℕ) → FitsSight types d sight → k ≡ Some (types.struct_of q) → sight.cell q place ≡ cell → WritesWhen types d (setting cell (cell_kind d k place) q place v)
+set_writes : (types : Typing) (d : Domain) (sight : Sight) (k q place v : ℕ) (cell : Option ℕ) → FitsSight types d sight → k ≡ types.struct_of q → sight.cell q place ≡ cell → WritesWhen types d (setting cell (cell_kind d.tables k place) q place v)
 set_writes types d sight k q place v None sees struct is = tt
 set_writes types d sight k q place v (Some old) sees struct is =
-    unless_writes types d (within_width (cell_kind d k place) v) cause.Range (action.Set q place (v ∷ [])) (λ width.
+    unless_writes types d (within_width (cell_kind d.tables k place) v) cause.Range (action.Set q place (v ∷ [])) (λ width.
     (let number : is_number_cell (slice_get (cells_of d.tables (types.struct_of q)) place) ≡ true = sym (sees.cells q place) ∙ ap is_some is in
-    let fits : within_width (kind_of_cell (slice_get (cells_of d.tables (types.struct_of q)) place)) v ≡ true = (let e : within_width (cell_kind d (Some (types.struct_of q)) place) v ≡ true = ap (λ x. within_width (cell_kind d x place) v) (sym struct) ∙ width in e) in
+    let fits : within_width (cell_kind d.tables (types.struct_of q) place) v ≡ true = ap (λ x. within_width (cell_kind d.tables x place) v) (sym struct) ∙ width in
     let r = number_kind (slice_get (cells_of d.tables (types.struct_of q)) place) v number fits in
     one_suits (cells_of d.tables (types.struct_of q)) place r.0 v r.1 r.2))
 
@@ -95,7 +86,7 @@ holds types d kinds regs o fit m h =
     let e : holds_block d (Some (types.struct_of (object (value_in regs o)))) ≡ true = ap (holds_block d) (sym is) ∙ h in
     e
 
-writes : (types : Typing) (d : Domain) (n : ℕ) (kinds : Kinds) (sight : Sight) (live : ℕ) (regs : Registers) (i : Instr) → Knows types d n sight kinds regs i → WritesWhen types d (meaning d n kinds sight live regs i)
+writes : (types : Typing) (d : Domain) (n : ℕ) (kinds : Kinds) (sight : Sight) (live : ℕ) (regs : Registers) (i : Instr) → Knows types d n sight kinds regs i → WritesWhen types d (meaning d n sight live regs i)
 writes types d n kinds sight live regs (instr.Math o a b c) knows = number_writes types d regs a cause.Divide (calculate o (number_in regs b) (number_in regs c))
 writes types d n kinds sight live regs (instr.Jz a label) knows = jz_writes types d regs (number_in regs a == 0)
 writes types d n kinds sight live regs (instr.Get a o i) knows = number_writes types d regs a cause.Bounds _
@@ -103,9 +94,8 @@ writes types d n kinds sight live regs (instr.Wget a i) knows = number_writes ty
 writes types d n kinds sight live regs (instr.New a ty) knows = unless_writes types d _ cause.HeapFull (action.New (struct_number d.tables ty)) (λ e. tt)
 writes types d n kinds sight live regs (instr.Drop a) knows = tt
 writes types d n kinds sight live regs (instr.Set o i v) knows =
-    let owned = owned_object (kind_in kinds o) (and_left (meets Owned (kind_in kinds o)) (meets Number (kind_in kinds i) && (meets Number (kind_in kinds v) && true)) knows.met) in
-    let is = object_is types (kind_in kinds o) (value_in regs o) owned (knows.fits.each o.number) in
-    set_writes types d sight (object_struct (kind_in kinds o)) (object_in regs o) (number_in regs i) (number_in regs v) (sight.cell (object_in regs o) (number_in regs i)) knows.sees is refl
+    let is = ap (λ (seen : Typing). seen.struct_of (object_in regs o)) knows.sees.types_same in
+    set_writes types d sight (struct_in sight regs o) (object_in regs o) (number_in regs i) (number_in regs v) (sight.cell (object_in regs o) (number_in regs i)) knows.sees is refl
 writes types d n kinds sight live regs (instr.Wput i v) knows = unless_writes types d _ cause.Bounds (action.Wput (number_in regs i) (number_in regs v)) (λ e. tt)
 writes types d n kinds sight live regs (instr.Take a slot) knows = unless_writes types d _ cause.Empty (action.Take (slot_number d slot)) (λ e. tt)
 writes types d n kinds sight live regs (instr.Put slot a) knows = unless_writes types d _ cause.Full (action.Put (slot_number d slot) (object_in regs a)) (λ e. tt)
@@ -125,7 +115,7 @@ pub act_writes : (d : Domain) (types : Typing) (sight : Sight) (live : ℕ) (i :
 act_writes d types sight live i s act keeps sees stand at is =
     let kinds = kinds_at d s.at in
     let kept = keeps_at d s.at at.number (line.Code i) keeps at.here in
-    let means : meaning d s.at kinds sight live s.regs i ≡ Would act = sym (work_is d sight live s at.number i at.here (finds d types s at.number i keeps stand at.here)) ∙ is in
+    let means : meaning d s.at sight live s.regs i ≡ Would act = sym (work_is d sight live s at.number i at.here (finds d types s at.number i keeps stand at.here)) ∙ is in
     subst (WritesWhen types d) means
     (writes types d s.at kinds sight live s.regs i (record {
       sees = sees;

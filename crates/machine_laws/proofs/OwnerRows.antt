@@ -1,14 +1,15 @@
 -- Each row keeps what is owned and lent sound, but for what then is doomed.
 use Rattle.std.proofs.Common.{◌≡◌, ℕ, zero, suc, ◌<◌, ◌≤◌, true, cond, List, [], ◌∷◌, Option, Some, None, refl, ap, sym, ◌∙◌, subst, arith, inl, inr, slice_get, length}
 use Rattle.std.proofs.lemmas.Bool.{cases_eq, ne_eqb}
-use Rattle.rl_defs.specs.declared.values.Owner.{Owner}
-use Rattle.rl_defs.specs.declared.values.Owner.TheVariants as owner
-use Rattle.rl_defs.specs.declared.entry.Entry.{Entry}
-use Rattle.rl_defs.specs.declared.entry.Entry.TheVariants as entry
-use Rattle.rl_defs.specs.declared.load.Load.{Load}
-use Rattle.rl_defs.specs.State.{Placement, Root, lives}
-use Rattle.rl_defs.specs.Crossing.{moved_of}
-use Rattle.rl_defs.specs.Machine.History.{objects_in, sum_to}
+use Rattle.machine_defs.specs.declared.values.Owner.{Owner}
+use Rattle.machine_defs.specs.declared.values.Owner.TheVariants as owner
+use Rattle.machine_defs.specs.declared.entry.Entry.{Entry}
+use Rattle.machine_defs.specs.declared.entry.Entry.TheVariants as entry
+use Rattle.rl_defs.specs.declared.load.LoadRows.{LoadRows}
+use Rattle.machine_defs.specs.State.{Placement, Root, lives}
+use Rattle.machine_defs.specs.Arguments.{moved_of}
+use Rattle.machine_defs.specs.Arguments.{objects_in}
+use Rattle.machine_laws.specs.Ledger.{sum_to}
 use Rattle.machine_laws.specs.Ledger.{LedgerFrame, Ledger, at, alive}
 use Rattle.machine_laws.specs.LedgerRows.{Exchanged, Row}
 use Rattle.machine_laws.specs.LedgerSound.{in_slots, own_in, held_in, is_of, Owned, Grounded, Placed}
@@ -19,7 +20,7 @@ use Rattle.machine_laws.proofs.PassRows.{slot_row, unwound_row, again_row, ret_r
 use Rattle.machine_laws.proofs.Rows.{at_same, at_other}
 
 -- no frame is of an instance that was not opened
-pub none_unopened : (L : Load) (loads : ℕ → ℕ) (ni nc t i o : ℕ) (fs : List LedgerFrame) → Grounded L loads ni nc t fs → ni ≤ i → own_in (owner.Instance i) o fs ≡ 0
+pub none_unopened : (L : LoadRows) (loads : ℕ → ℕ) (ni nc t i o : ℕ) (fs : List LedgerFrame) → Grounded L loads ni nc t fs → ni ≤ i → own_in (owner.Instance i) o fs ≡ 0
 none_unopened L loads ni nc t i o [] g le = refl
 none_unopened L loads ni nc t i o (f ∷ []) g le = let e = g.0 in rw e refl
 none_unopened L loads ni nc t i o (f ∷ h ∷ fs) g le =
@@ -41,7 +42,7 @@ slots_empty o [] empty = refl
 slots_empty o (None ∷ slots) empty = slots_empty o slots (λ k. empty (suc k))
 slots_empty o (Some q ∷ slots) empty = rw (ne_eqb q o (λ is. empty 0 (ap (λ x. Some (Some x)) is)), slots_empty o slots (λ k. empty (suc k))) refl
 
-module _ (L : Load) (s : Ledger) (own : Owned L s) (p : Placed L s) where
+module _ (L : LoadRows) (s : Ledger) (own : Owned L s) (p : Placed L s) where
   pub reload_owned : (i : ℕ) (slots : List (Option ℕ)) → i ≡ s.next_instance → ((o : ℕ) → in_slots o slots ≡ 0) → BeforeSweepIn (length L.clients) (at i true s.live) s.stack s.seat (at i slots s.slots) s.next_object
   reload_owned i slots e empty = record {
     once = λ w o. each w o;

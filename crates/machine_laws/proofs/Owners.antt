@@ -1,11 +1,11 @@
 -- Owners, and what is lent of what a running frame has.
 use Rattle.std.proofs.Common.{◌≡◌, ℕ, ◌+◌, ◌<◌, ◌≤◌, Bool, true, cond, List, [], ◌∷◌, Option, Some, None, refl, ap, sym, arith, inl, inr, length}
 use Rattle.std.proofs.lemmas.Bool.{cases_eq, cases_Bool, eqb-true, eq-eqb}
-use Rattle.rl_defs.specs.declared.values.Owner.{Owner}
-use Rattle.rl_defs.specs.declared.values.Owner.TheVariants as owner
-use Rattle.rl_defs.specs.declared.load.Load.{Load}
-use Rattle.rl_defs.specs.State.{Placement, Root, Hung, lives}
-use Rattle.rl_defs.specs.Loans.{count}
+use Rattle.machine_defs.specs.declared.values.Owner.{Owner}
+use Rattle.machine_defs.specs.declared.values.Owner.TheVariants as owner
+use Rattle.rl_defs.specs.declared.load.LoadRows.{LoadRows}
+use Rattle.machine_defs.specs.State.{Placement, Root, Hung, lives}
+use Rattle.machine_defs.specs.Loans.{count}
 use Rattle.machine_laws.specs.Ledger.{same_owner, LedgerFrame, Ledger, alive, lent_in, loans}
 use Rattle.machine_laws.specs.LedgerRows.{Runs}
 use Rattle.machine_laws.specs.LedgerSound.{own_in, held, is_of, Covered, Owned}
@@ -55,7 +55,7 @@ covered_below live seat o w (f ∷ fs) c pos is lives = elim (cases_eq (count o 
 ]
 
 -- the top frame's own objects are those of its party, and are not lent
-module _ (L : Load) (s : Ledger) (own : Owned L s) (t : ℕ) (f : LedgerFrame) (fs : List LedgerFrame) (runs : Runs L s t f fs) (o : ℕ) (has_it : 0 < count o f.own) where
+module _ (L : LoadRows) (s : Ledger) (own : Owned L s) (t : ℕ) (f : LedgerFrame) (fs : List LedgerFrame) (runs : Runs L s t f fs) (o : ℕ) (has_it : 0 < count o f.own) where
   pub top_own : count o f.own ≤ own_in f.party o (s.stack t)
   top_own = rw runs.stack (let e : ◌≡◌ {A = ℕ} (cond (same_owner f.party f.party) (count o f.own) 0) (count o f.own) = rw (same_self f.party) refl in omega arith)
 

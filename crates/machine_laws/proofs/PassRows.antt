@@ -1,13 +1,13 @@
 -- Slots are filled and emptied, dead frames leave, and calls and returns pass objects on.
 use Rattle.std.proofs.Common.{◌≡◌, ℕ, zero, suc, ◌+◌, ◌<◌, ◌≤◌, ◌==◌, Bool, true, false, cond, List, [], ◌∷◌, Option, Some, None, refl, sym, ◌∙◌, subst, arith, inl, inr, slice_get, slice_set, length}
 use Rattle.std.proofs.lemmas.Bool.{cases_eq, cases_Bool, eq-eqb, ne_eqb, both_ways}
-use Rattle.rl_defs.specs.declared.values.Arg.{Arg}
-use Rattle.rl_defs.specs.declared.values.Owner.{Owner}
-use Rattle.rl_defs.specs.declared.values.Owner.TheVariants as owner
-use Rattle.rl_defs.specs.declared.load.Load.{Load}
-use Rattle.rl_defs.specs.State.{Placement, Root, Hung, lives}
-use Rattle.rl_defs.specs.Loans.{count}
-use Rattle.rl_defs.specs.Crossing.{moved_of, lent_of}
+use Rattle.machine_defs.specs.declared.values.Arg.{Arg}
+use Rattle.machine_defs.specs.declared.values.Owner.{Owner}
+use Rattle.machine_defs.specs.declared.values.Owner.TheVariants as owner
+use Rattle.rl_defs.specs.declared.load.LoadRows.{LoadRows}
+use Rattle.machine_defs.specs.State.{Placement, Root, Hung, lives}
+use Rattle.machine_defs.specs.Loans.{count}
+use Rattle.machine_defs.specs.Arguments.{moved_of, lent_of}
 use Rattle.machine_laws.specs.Ledger.{same_owner, LedgerFrame, Ledger, at, alive, loans}
 use Rattle.machine_laws.specs.LedgerRows.{Runs, IsDead, Exchanged, give, callee, CallRow}
 use Rattle.machine_laws.specs.LedgerSound.{in_slots, own_in, slots_held, is_of, Covered, Owned}
@@ -31,7 +31,7 @@ in_slots_set q (Some p ∷ ks) zero x (Some o) is = let e : x ≡ Some p = cc in
 in_slots_set q (None ∷ ks) (suc k) x y is = in_slots_set q ks k x y is
 in_slots_set q (Some p ∷ ks) (suc k) x y is = let r = in_slots_set q ks k x y is in omega arith
 
-module _ (L : Load) (s : Ledger) (own : Owned L s) (t : ℕ) (f : LedgerFrame) (fs : List LedgerFrame) (runs : Runs L s t f fs) (mine : List ℕ) (i : ℕ) (here : f.party ≡ owner.Instance i) where
+module _ (L : LoadRows) (s : Ledger) (own : Owned L s) (t : ℕ) (f : LedgerFrame) (fs : List LedgerFrame) (runs : Runs L s t f fs) (mine : List ℕ) (i : ℕ) (here : f.party ≡ owner.Instance i) where
   -- the slot's content x is y afterwards, and the frame's own objects make up for it
   pub slot_row : (k : ℕ) (x y : Option ℕ) → slice_get (s.slots i) k ≡ Some x → ((q : ℕ) → count q mine + one_of q y ≡ count q f.own + one_of q x)
       → BeforeSweepIn (length L.clients) s.live (at t (record f { own = mine } ∷ fs) s.stack) s.seat (at i (slice_set (s.slots i) k y) s.slots) s.next_object
@@ -60,7 +60,7 @@ cond_zero true = refl
 cond_zero false = refl
 
 -- a dead frame leaves, whatever it had; a caller that lives has what it had
-pub unwound_row : (L : Load) (s : Ledger) (own : Owned L s) (t : ℕ) (f g : LedgerFrame) (fs : List LedgerFrame) → IsDead L s t f (g ∷ fs) → (mine : List ℕ) → (alive s.live g.party ≡ true → Exchanged g.own [] [] mine)
+pub unwound_row : (L : LoadRows) (s : Ledger) (own : Owned L s) (t : ℕ) (f g : LedgerFrame) (fs : List LedgerFrame) → IsDead L s t f (g ∷ fs) → (mine : List ℕ) → (alive s.live g.party ≡ true → Exchanged g.own [] [] mine)
     → BeforeSweepIn (length L.clients) s.live (at t (record g { own = mine } ∷ fs) s.stack) s.seat s.slots s.next_object
 unwound_row L s own t f g fs dead mine keeps = stack_changed (length L.clients) s.live s.stack s.seat s.slots s.next_object own t dead.some dead.within (record g { own = mine } ∷ fs) s.seat s.slots s.next_object
     (λ w o lives. rw (dead.stack, own_dead s.live w f.party (count o f.own) lives dead.dead) (elim (cases_Bool (alive s.live g.party)) [
@@ -73,7 +73,7 @@ unwound_row L s own t f g fs dead mine keeps = stack_changed (length L.clients) 
     (unswept L s own).hung own.cell own.fresh
 
 -- a dead frame begins again in another instance, with nothing of its own
-pub again_row : (L : Load) (s : Ledger) (own : Owned L s) (t i : ℕ) (f : LedgerFrame) (fs : List LedgerFrame) → IsDead L s t f fs
+pub again_row : (L : LoadRows) (s : Ledger) (own : Owned L s) (t i : ℕ) (f : LedgerFrame) (fs : List LedgerFrame) → IsDead L s t f fs
     → BeforeSweepIn (length L.clients) s.live (at t (record f { party = owner.Instance i; own = [] } ∷ fs) s.stack) s.seat s.slots s.next_object
 again_row L s own t i f fs dead = stack_changed (length L.clients) s.live s.stack s.seat s.slots s.next_object own t dead.some dead.within (record f { party = owner.Instance i; own = [] } ∷ fs) s.seat s.slots s.next_object
     (λ w o lives. rw (dead.stack, own_dead s.live w f.party (count o f.own) lives dead.dead) (let z = cond_zero (same_owner w (owner.Instance i)) in omega arith))
@@ -86,7 +86,7 @@ pub give_flat : (os : List ℕ) (w : Owner) (seat : ℕ → Option Placement) (q
 give_flat os w seat q p k = has_cond (λ y. y ≡ Some (Hung p k) → seat q ≡ Some (Hung p k)) q os (Some (Root w)) (seat q) (λ _ e. absurd (cc (e))) (λ _ e. e)
 
 -- objects that the top frame owns are given to a party
-module _ (L : Load) (s : Ledger) (own : Owned L s) (t : ℕ) (f : LedgerFrame) (fs : List LedgerFrame) (runs : Runs L s t f fs) (os : List ℕ) (w : Owner) (some_own : (o : ℕ) → count o os ≤ count o f.own) where
+module _ (L : LoadRows) (s : Ledger) (own : Owned L s) (t : ℕ) (f : LedgerFrame) (fs : List LedgerFrame) (runs : Runs L s t f fs) (os : List ℕ) (w : Owner) (some_own : (o : ℕ) → count o os ≤ count o f.own) where
   give_keeps : (o : ℕ) → 0 < loans L s o → give os w s.seat o ≡ s.seat o
   give_keeps o lent = has_cond (λ y. y ≡ s.seat o) o os (Some (Root w)) (s.seat o) (λ pos. absurd (let z = unlent L s own t f fs runs o (let le = some_own o in omega arith) in omega arith)) (λ _. refl)
 
@@ -111,7 +111,7 @@ even_enter true bg k n m c e = omega arith
 even_enter false bg k n m c e = omega arith
 
 -- the results go to the frame below, which has if them it lives
-module _ (L : Load) (s : Ledger) (own : Owned L s) (t : ℕ) (f g : LedgerFrame) (fs : List LedgerFrame) (runs : Runs L s t f (g ∷ fs)) (os mine : List ℕ)
+module _ (L : LoadRows) (s : Ledger) (own : Owned L s) (t : ℕ) (f g : LedgerFrame) (fs : List LedgerFrame) (runs : Runs L s t f (g ∷ fs)) (os mine : List ℕ)
     (all : Exchanged f.own os [] []) (gains : alive s.live g.party ≡ true → Exchanged g.own [] os mine) where
   ret_even : (w : Owner) (o : ℕ) → alive s.live w ≡ true → (k n : ℕ)
       → k + (cond (same_owner w g.party) (count o mine) 0 + n) + cond (is_of w (s.seat o)) 1 0
@@ -151,7 +151,7 @@ module _ (L : Load) (s : Ledger) (own : Owned L s) (t : ℕ) (f g : LedgerFrame)
       (give_fresh L s own t f (g ∷ fs) runs os g.party some_own)
 
 -- a call passes the moved objects on, and lends others
-module _ (L : Load) (s : Ledger) (own : Owned L s) (t c x i m : ℕ) (args : List Arg) (f : LedgerFrame) (fs : List LedgerFrame) (mine : List ℕ) (row : CallRow L s t c x i m args f fs mine) where
+module _ (L : LoadRows) (s : Ledger) (own : Owned L s) (t c x i m : ℕ) (args : List Arg) (f : LedgerFrame) (fs : List LedgerFrame) (mine : List ℕ) (row : CallRow L s t c x i m args f fs mine) where
   call_even : (w : Owner) (o : ℕ) (k n : ℕ)
       → k + (cond (same_owner w (owner.Instance i)) (count o (moved_of args)) 0 + (cond (same_owner w f.party) (count o mine) 0 + n)) + cond (is_of w (s.seat o)) 1 0
       ≡ k + (cond (same_owner w f.party) (count o f.own) 0 + n) + cond (is_of w (give (moved_of args) (owner.Instance i) s.seat o)) 1 0

@@ -1,10 +1,12 @@
 -- The numbers up to a bound that pass a test.
-use Rattle.std.proofs.Common.{◌≡◌, ℕ, zero, suc, ◌<◌, ◌≤◌, ◌==◌, Bool, true, false, cond, ◌||◌, List, [], ◌∷◌, ◌++◌, refl, sym, ◌∙◌, arith, inl, inr}
+use Rattle.std.specs.List.{flat_map, range_with_len}
+use Rattle.machine_laws.specs.Ledger.{sum_to}
+use Rattle.std.proofs.Common.{filter, ap, append_assoc, ◌+◌, ◌≡◌, ℕ, zero, suc, ◌<◌, ◌≤◌, ◌==◌, Bool, true, false, cond, ◌||◌, List, [], ◌∷◌, ◌++◌, refl, sym, ◌∙◌, arith, inl, inr}
 use Rattle.std.proofs.lemmas.Bool.{cases_eq, cases_Bool, eq-eqb, ne_eqb, both_ways, cases_lt}
 use Rattle.std.proofs.Math.Bool.{or-false}
-use Rattle.rl_defs.specs.Loans.{count}
-use Rattle.rl_defs.specs.Crossing.{has}
-use Rattle.rl_defs.specs.Machine.Caused.{passing}
+use Rattle.machine_defs.specs.Loans.{count}
+use Rattle.machine_defs.specs.Arguments.{has}
+use Rattle.machine_laws.specs.Ledger.{passing}
 use Rattle.machine_laws.proofs.Counts.{none_counted}
 use Rattle.machine_laws.proofs.Counting.{count_append}
 
@@ -71,3 +73,39 @@ passing_once f (suc n) o =
       ])
       | inr e ↦ rw e (let split' = count_append o (passing f n) [] in rw split' (omega arith))
     ]
+
+-- they are those of the list of all that pass
+pub range_more : (a n : ℕ) → range_with_len a (suc n) ≡ range_with_len a n ++ (a + n) ∷ []
+range_more a zero = ap (λ k. k ∷ []) (omega arith)
+range_more a (suc n) =
+    let e : a + 1 + n ≡ a + suc n = omega arith in
+    ap (λ ks. a ∷ ks) (range_more (a + 1) n ∙ ap (λ k. range_with_len (a + 1) n ++ k ∷ []) e)
+
+filter_append : (f : ℕ → Bool) (xs ys : List ℕ) → filter f (xs ++ ys) ≡ filter f xs ++ filter f ys
+filter_append f [] ys = refl
+filter_append f (x ∷ xs) ys = elim (cases_Bool (f x)) [
+  | inl yes' ↦ rw yes' (ap (λ zs. x ∷ zs) (filter_append f xs ys))
+  | inr no' ↦ rw no' (filter_append f xs ys)
+]
+
+pub passing_listed : (f : ℕ → Bool) (n : ℕ) → passing f n ≡ filter f (range_with_len 1 n)
+passing_listed f zero = refl
+passing_listed f (suc n) =
+    let e : 1 + n ≡ suc n = omega arith in
+    ap (λ ks. ks ++ cond (f (suc n)) (suc n ∷ []) []) (passing_listed f n)
+    ∙ (sym (filter_append f (range_with_len 1 n) (suc n ∷ [])) ∙ ap (filter f) (ap (λ k. range_with_len 1 n ++ k ∷ []) (sym e) ∙ sym (range_more 1 n)))
+
+-- a count over lists for the numbers up to a bound
+flat_append : (h : ℕ → List ℕ) (xs ys : List ℕ) → flat_map h (xs ++ ys) ≡ flat_map h xs ++ flat_map h ys
+flat_append h [] ys = refl
+flat_append h (x ∷ xs) ys = ap (λ zs. h x ++ zs) (flat_append h xs ys) ∙ sym (append_assoc (h x) (flat_map h xs) (flat_map h ys))
+
+pub count_listed : (o : ℕ) (h : ℕ → List ℕ) (n : ℕ) → count o (flat_map h (range_with_len 1 n)) ≡ sum_to (λ t. count o (h t)) n
+count_listed o h zero = refl
+count_listed o h (suc n) =
+    let e : 1 + n ≡ suc n = omega arith in
+    let all' : flat_map h (range_with_len 1 (suc n)) ≡ flat_map h (range_with_len 1 n) ++ (h (suc n) ++ []) = ap (flat_map h) (range_more 1 n ∙ ap (λ k. range_with_len 1 n ++ k ∷ []) e) ∙ flat_append h (range_with_len 1 n) (suc n ∷ []) in
+    let deeper = count_listed o h n in
+    let one = count_append o (flat_map h (range_with_len 1 n)) (h (suc n) ++ []) in
+    let two = count_append o (h (suc n)) [] in
+    ap (count o) all' ∙ omega (arith, deeper, one, two)

@@ -1,16 +1,16 @@
 -- Each row keeps frames and owners in place.
 use Rattle.std.proofs.Common.{◌≡◌, ℕ, zero, suc, ◌<◌, ◌≤◌, true, false, List, [], ◌∷◌, Option, Some, None, refl, ap, sym, ◌∙◌, subst, arith, inl, inr, length}
 use Rattle.std.proofs.lemmas.Bool.{cases_eq, both_ways, cases_lt}
-use Rattle.rl_defs.specs.declared.values.Owner.{Owner}
-use Rattle.rl_defs.specs.declared.values.Owner.TheVariants as owner
-use Rattle.rl_defs.specs.declared.entry.Entry.{Entry}
-use Rattle.rl_defs.specs.declared.entry.Entry.TheVariants as entry
-use Rattle.rl_defs.specs.declared.load.Load.{Load}
+use Rattle.machine_defs.specs.declared.values.Owner.{Owner}
+use Rattle.machine_defs.specs.declared.values.Owner.TheVariants as owner
+use Rattle.machine_defs.specs.declared.entry.Entry.{Entry}
+use Rattle.machine_defs.specs.declared.entry.Entry.TheVariants as entry
+use Rattle.rl_defs.specs.declared.load.LoadRows.{LoadRows}
 use Rattle.rl_defs.specs.Domains.{load_of_target}
-use Rattle.rl_defs.specs.State.{Placement, Root, Hung, lives}
-use Rattle.rl_defs.specs.Loans.{count}
-use Rattle.rl_defs.specs.Crossing.{moved_of}
-use Rattle.rl_defs.specs.Machine.History.{objects_in}
+use Rattle.machine_defs.specs.State.{Placement, Root, Hung, lives}
+use Rattle.machine_defs.specs.Loans.{count}
+use Rattle.machine_defs.specs.Arguments.{moved_of}
+use Rattle.machine_defs.specs.Arguments.{objects_in}
 use Rattle.machine_laws.specs.Ledger.{LedgerFrame, Ledger, at, alive}
 use Rattle.machine_laws.specs.LedgerRows.{Runs, give, remove, callee, Row}
 use Rattle.machine_laws.specs.LedgerSound.{Owned, Grounded, PlacedIn, Placed}
@@ -28,7 +28,7 @@ pub record SeatsPlaced (seat : ℕ → Option Placement) (next_instance next_obj
   pub zero_free : seat 0 ≡ None
   pub some_object : 0 < next_object
 
-module _ (L : Load) (s : Ledger) (own : Owned L s) (p : Placed L s) where
+module _ (L : LoadRows) (s : Ledger) (own : Owned L s) (p : Placed L s) where
   stack_changed : (t : ℕ) (new : List LedgerFrame) (seat' : ℕ → Option Placement) (nx nc : ℕ) → s.next_call ≤ nc → Grounded L s.loads s.next_instance nc t new → length new ≤ 32 → SeatsPlaced seat' s.next_instance nx
       → PlacedIn L s.loads s.live (at t new s.stack) seat' s.current s.next_instance nx nc
   stack_changed t new seat' nx nc le g few q = record {

@@ -2,16 +2,17 @@
 use Rattle.std.proofs.Common.{◌≡◌, ℕ, ◌+◌, ◌<◌, ◌≤◌, ◌==◌, Bool, true, false, not, ◌||◌, List, [], ◌∷◌, ◌++◌, length, filter, Option, Some, None, refl, sym, subst, ◌∙◌, arith, inl, inr}
 use Rattle.std.specs.List.{filter_map}
 use Rattle.std.proofs.lemmas.Bool.{cases_Bool, eqb-true}
-use Rattle.rl_defs.specs.declared.values.Owner.{Owner}
-use Rattle.rl_defs.specs.declared.values.Owner.TheVariants as owner
-use Rattle.rl_defs.specs.declared.frame.FrameBody.{FrameBody}
-use Rattle.rl_defs.specs.declared.frame.FrameBody.TheVariants as body
-use Rattle.rl_defs.specs.declared.frame.Action.{Action}
-use Rattle.rl_defs.specs.declared.load.Load.{Load}
-use Rattle.rl_defs.specs.State.{State, StackFrame, Object, Placement, Root, row, is_live, stack, frames_of}
-use Rattle.rl_defs.specs.Loans.{object_of, count}
-use Rattle.rl_defs.specs.Crossing.{has}
-use Rattle.rl_defs.specs.Machine.Sound.{object_held, own_of, own_of_body}
+use Rattle.machine_defs.specs.declared.values.Owner.{Owner}
+use Rattle.machine_defs.specs.declared.values.Owner.TheVariants as owner
+use Rattle.machine_defs.specs.declared.frame.FrameBody.{FrameBody}
+use Rattle.machine_defs.specs.declared.frame.FrameBody.TheVariants as body
+use Rattle.machine_defs.specs.declared.frame.Action.{Action}
+use Rattle.rl_defs.specs.declared.load.LoadRows.{LoadRows}
+use Rattle.machine_defs.specs.State.{State, StackFrame, Object, Placement, Root, is_live, stack, frames_of}
+use Rattle.rl_defs.specs.Rows.{row}
+use Rattle.machine_defs.specs.Loans.{object_of, count}
+use Rattle.machine_defs.specs.Arguments.{has}
+use Rattle.machine_defs.specs.Sound.{object_held, own_of, own_of_body}
 use Rattle.machine_laws.specs.Ledger.{LedgerFrame, lent_in}
 use Rattle.machine_laws.specs.LedgerOf.{frame_entry, entries_of, seat_of, ledger_of}
 use Rattle.machine_laws.specs.LedgerSound.{own_in, Owned}
@@ -72,7 +73,7 @@ seated s o p is = go (object_of s o) refl
     go None e = absurd (let h : seat_of None ≡ Some p = rw e at is in cc)
     go (Some x) e = (x, e)
 
-module _ (L : Load) (s : State) (laid : Laid L s) (own : Owned L (ledger_of L s)) where
+module _ (L : LoadRows) (s : State) (laid : Laid L s) (own : Owned L (ledger_of L s)) where
   pub stack_within : (t : ℕ) (below above : List StackFrame) (f : StackFrame) → stack s t ≡ below ++ f ∷ above → (0 < t) × (t ≤ length L.clients)
   stack_within t below above f here = go (row s.stacks t) refl
     where

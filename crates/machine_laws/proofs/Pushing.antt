@@ -3,10 +3,11 @@ use Rattle.std.proofs.Common.{◌≡◌, ℕ, ◌-◌, ◌<◌, ◌≤◌, ◌==
 use Rattle.std.proofs.lemmas.List.{length-set}
 use mathlib.Core.Path.{fun_ext}
 use Rattle.std.proofs.lemmas.Bool.{cases_Bool}
-use Rattle.rl_defs.specs.declared.load.Load.{Load}
-use Rattle.rl_defs.specs.State.{State, StackFrame, Thread, row, stack, with_stack, with_thread}
-use Rattle.rl_defs.specs.Machine.Frames.{below_top, popped, with_body}
-use Rattle.rl_defs.specs.Machine.Sound.{own_of}
+use Rattle.rl_defs.specs.declared.load.LoadRows.{LoadRows}
+use Rattle.machine_defs.specs.State.{State, StackFrame, Thread, stack, with_stack, with_thread}
+use Rattle.rl_defs.specs.Rows.{row}
+use Rattle.machine_defs.specs.Frames.{below_top, popped, with_body}
+use Rattle.machine_defs.specs.Sound.{own_of}
 use Rattle.machine_laws.specs.Ledger.{LedgerFrame, at}
 use Rattle.machine_laws.specs.LedgerOf.{frame_entry, names_held, ledger_of}
 use Rattle.machine_laws.specs.LedgerRows.{with_own}
@@ -23,7 +24,7 @@ pub record Alike (old new : Thread) : Type 0 where
   pub names : new.names ≡ old.names
   pub done : new.done ≡ old.done
 
-pub gone_ledger : (L : Load) (s : State) (t : ℕ) (f g : StackFrame) (old new : Thread) → Laid L s → row s.threads t ≡ Some old → Alike old new → g ≡ with_body f g.body
+pub gone_ledger : (L : LoadRows) (s : State) (t : ℕ) (f g : StackFrame) (old new : Thread) → Laid L s → row s.threads t ≡ Some old → Alike old new → g ≡ with_body f g.body
     → ledger_of L (gone_on s t g new) ≡ record (ledger_of L s) { stack = with_own t (frame_entry f) (own_of g) (under s t) ((ledger_of L s).stack) }
 gone_ledger L s t f g old new laid of alike is =
     let w = client_within L s t old laid of in
@@ -36,7 +37,7 @@ gone_ledger L s t f g old new laid of alike is =
     ap₂ (λ (st : ℕ → List LedgerFrame) (done : ℕ → Bool). record (ledger_of L s) { stack = st; done = done }) stacks (done_same L s t old new of alike.done)
 
 -- a frame that is pushed
-pub pushed_ledger : (L : Load) (s : State) (t : ℕ) (g : StackFrame) → Laid L s → 0 < t → t ≤ length L.clients
+pub pushed_ledger : (L : LoadRows) (s : State) (t : ℕ) (g : StackFrame) → Laid L s → 0 < t → t ≤ length L.clients
     → ledger_of L (with_stack s t (stack s t ++ g ∷ [])) ≡ record (ledger_of L s) { stack = at t (frame_entry g ∷ (ledger_of L s).stack t) ((ledger_of L s).stack) }
 pushed_ledger L s t g laid pos le =
     let all' = frames_at L s t (stack s t ++ g ∷ []) laid pos le in
@@ -44,12 +45,12 @@ pushed_ledger L s t g laid pos le =
     ap (λ (st : ℕ → List LedgerFrame). record (ledger_of L s) { stack = st }) (all' ∙ ap (λ fs. at t fs ((ledger_of L s).stack)) push)
 
 -- the top frame that is popped
-pub popped_ledger : (L : Load) (s : State) (t : ℕ) → Laid L s → 0 < t → t ≤ length L.clients
+pub popped_ledger : (L : LoadRows) (s : State) (t : ℕ) → Laid L s → 0 < t → t ≤ length L.clients
     → ledger_of L (popped t s) ≡ record (ledger_of L s) { stack = at t (under s t) ((ledger_of L s).stack) }
 popped_ledger L s t laid pos le = ap (λ (st : ℕ → List LedgerFrame). record (ledger_of L s) { stack = st }) (frames_at L s t (below_top (stack s t)) laid pos le)
 
 -- a thread that changes where it has no frame
-pub thread_ledger : (L : Load) (s : State) (t : ℕ) (old new : Thread) → Laid L s → row s.threads t ≡ Some old → new.done ≡ old.done → stack s t ≡ []
+pub thread_ledger : (L : LoadRows) (s : State) (t : ℕ) (old new : Thread) → Laid L s → row s.threads t ≡ Some old → new.done ≡ old.done → stack s t ≡ []
     → ledger_of L (with_thread s t new) ≡ record (ledger_of L s) { stack = with_own t (bottom t (Some old)) (names_held (Some new)) [] ((ledger_of L s).stack) }
 thread_ledger L s t old new laid of same none =
     let w = client_within L s t old laid of in
@@ -58,7 +59,7 @@ thread_ledger L s t old new laid of same none =
     ap₂ (λ (st : ℕ → List LedgerFrame) (done : ℕ → Bool). record (ledger_of L s) { stack = st; done = done }) (all' ∙ ap (λ fs. at t fs ((ledger_of L s).stack)) here) (done_same L s t old new of same)
 
 -- what stays laid out
-pub laid_stack : (L : Load) (s : State) (t : ℕ) (frames : List StackFrame) → Laid L s → Laid L (with_stack s t frames)
+pub laid_stack : (L : LoadRows) (s : State) (t : ℕ) (frames : List StackFrame) → Laid L s → Laid L (with_stack s t frames)
 laid_stack L s t frames laid = record {
   stacks = length-set s.stacks (t - 1) frames ∙ laid.stacks;
   threads = laid.threads;
@@ -67,7 +68,7 @@ laid_stack L s t frames laid = record {
   started = laid.started;
 }
 
-pub laid_thread : (L : Load) (s : State) (t : ℕ) (thread : Thread) → Laid L s → Laid L (with_thread s t thread)
+pub laid_thread : (L : LoadRows) (s : State) (t : ℕ) (thread : Thread) → Laid L s → Laid L (with_thread s t thread)
 laid_thread L s t thread laid = record {
   stacks = laid.stacks;
   threads = length-set s.threads (t - 1) thread ∙ laid.threads;

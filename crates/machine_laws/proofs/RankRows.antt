@@ -1,10 +1,10 @@
 -- Each row keeps the ranks.
 use Rattle.std.proofs.Common.{◌≡◌, ℕ, ◌<◌, ◌≤◌, ◌==◌, Bool, true, false, cond, ◌⊎◌, List, [], ◌∷◌, refl, sym, subst, arith, inl, inr, length}
 use Rattle.std.proofs.lemmas.Bool.{cases_eq, cases_Bool, ne_eqb, both_ways}
-use Rattle.rl_defs.specs.declared.values.Owner.TheVariants as owner
-use Rattle.rl_defs.specs.declared.entry.Entry.{Entry}
-use Rattle.rl_defs.specs.declared.entry.Entry.TheVariants as entry
-use Rattle.rl_defs.specs.declared.load.Load.{Load}
+use Rattle.machine_defs.specs.declared.values.Owner.TheVariants as owner
+use Rattle.machine_defs.specs.declared.entry.Entry.{Entry}
+use Rattle.machine_defs.specs.declared.entry.Entry.TheVariants as entry
+use Rattle.rl_defs.specs.declared.load.LoadRows.{LoadRows}
 use Rattle.rl_defs.specs.Domains.{load_of_target, is_serial}
 use Rattle.machine_laws.specs.Ledger.{same_owner, LedgerFrame, Ledger, at}
 use Rattle.machine_laws.specs.LedgerRows.{IsFree, callee, Row}
@@ -13,7 +13,7 @@ use Rattle.machine_laws.proofs.OneStack.{at_each}
 use Rattle.machine_laws.proofs.Ranks.{is_entered, RankedIn, RanksIn, Ranks, below_in, entered_frame, ranked_weaker, ranked_opened, none_entered}
 use Rattle.machine_laws.proofs.Rows.{at_other}
 
-module _ (L : Load) (s : Ledger) (p : Placed L s) (k : Ranks L s) where
+module _ (L : LoadRows) (s : Ledger) (p : Placed L s) (k : Ranks L s) where
   -- a stack changes, into which only the instance i may come, where no other thread is
   stack_changed : (t i : ℕ) (new : List LedgerFrame) → 0 < t → t ≤ length L.clients → RankedIn L s.loads s.live new → ((j : ℕ) → is_entered j new ≡ true → (is_entered j (s.stack t) ≡ true) ⊎ (j ≡ i)) → IsFree L s t i → RanksIn L s.loads s.live (at t new s.stack)
   stack_changed t i new pos le ranked old free = record {

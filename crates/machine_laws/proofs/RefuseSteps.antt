@@ -1,39 +1,44 @@
 -- A call that is refused is a row of the ledger.
 use Rattle.std.proofs.Common.{◌≡◌, ℕ, ◌-◌, true, List, [], ◌∷◌, Some, None, refl, ap, sym, subst, ◌∙◌, arith, inl, inr}
 use Rattle.std.specs.List.{filter_map}
-use Rattle.rl_defs.specs.declared.values.Arg.{Arg}
-use Rattle.rl_defs.specs.declared.values.RpcCode.{RpcCode}
-use Rattle.rl_defs.specs.declared.entry.Entry.TheVariants as entry
-use Rattle.rl_defs.specs.declared.frame.Action.{Action}
-use Rattle.rl_defs.specs.declared.frame.Action.TheVariants as action
-use Rattle.rl_defs.specs.declared.frame.Answer.{Answer}
-use Rattle.rl_defs.specs.declared.frame.Answer.TheVariants as answer
-use Rattle.rl_defs.specs.declared.frame.FrameBody.{FrameBody}
-use Rattle.rl_defs.specs.declared.frame.FrameBody.TheVariants as body
-use Rattle.rl_defs.specs.declared.load.Load.{Load}
+use Rattle.machine_defs.specs.declared.values.Arg.{Arg}
+use Rattle.machine_defs.specs.declared.values.RpcCode.{RpcCode}
+use Rattle.machine_defs.specs.declared.entry.Entry.TheVariants as entry
+use Rattle.machine_defs.specs.declared.frame.Action.{Action}
+use Rattle.machine_defs.specs.declared.frame.Action.TheVariants as action
+use Rattle.machine_defs.specs.declared.frame.Answer.{Answer}
+use Rattle.machine_defs.specs.declared.frame.Answer.TheVariants as answer
+use Rattle.machine_defs.specs.declared.frame.FrameBody.{FrameBody}
+use Rattle.machine_defs.specs.declared.frame.FrameBody.TheVariants as body
+use Rattle.rl_defs.specs.declared.load.LoadRows.{LoadRows}
 use Rattle.rl_defs.specs.declared.load.Command.TheVariants as command
 use Rattle.rl_defs.specs.DomainValue.{Domain}
-use Rattle.rl_defs.specs.CodeFits.{after_answer}
-use Rattle.rl_defs.specs.Instructions.{Stand, Registers}
-use Rattle.rl_defs.specs.State.{State, StackFrame, Thread, row, is_live, stack}
-use Rattle.rl_defs.specs.Loans.{count}
-use Rattle.rl_defs.specs.Step.{names_of}
-use Rattle.rl_defs.specs.Wanted.{Commands, top, commands_of, instance_load}
-use Rattle.rl_defs.specs.Crossing.{Wish, moved_of, is_undone}
-use Rattle.rl_defs.specs.Machine.Objects.{without}
-use Rattle.rl_defs.specs.Machine.Seen.{domain_of_load, domain_of_instance}
-use Rattle.rl_defs.specs.Machine.NativeFits.{types_of}
-use Rattle.rl_defs.specs.Machine.Frames.{below_top, with_body, Answers, AnswersBody, Replies, AnswersTop, AnswersFrame, AnswersLive, AnswersClient, instr_at, answered_code, stand_after, code_at, held_after}
-use Rattle.rl_defs.specs.Machine.Calling.{with_fuel}
-use Rattle.rl_defs.specs.Machine.CallRows.{numbered, Refuses}
-use Rattle.rl_defs.specs.Machine.Sound.{own_of, own_of_body}
+use Rattle.machine_defs.specs.Instructions.{after_answer}
+use Rattle.rl_defs.specs.Registers.{Stand, Registers}
+use Rattle.machine_defs.specs.State.{State, StackFrame, Thread, is_live, stack}
+use Rattle.rl_defs.specs.Rows.{row}
+use Rattle.machine_defs.specs.Loans.{count}
+use Rattle.machine_defs.specs.Frames.{names_of}
+use Rattle.machine_defs.specs.Wants.{Commands}
+use Rattle.machine_defs.specs.State.{top, instance_load}
+use Rattle.rl_defs.specs.Rows.{commands_of}
+use Rattle.machine_defs.specs.Calling.{Wish, is_undone}
+use Rattle.machine_defs.specs.Arguments.{moved_of}
+use Rattle.machine_defs.specs.Objects.{without}
+use Rattle.rl_defs.specs.Rows.{domain_of_load}
+use Rattle.machine_defs.specs.Seen.{domain_of_instance}
+use Rattle.machine_defs.specs.Seen.{types_of}
+use Rattle.machine_defs.specs.Frames.{below_top, with_body, Answers, AnswersBody, Replies, AnswersTop, AnswersFrame, AnswersLive, AnswersClient, instr_at, answered_code, code_at, held_after}
+use Rattle.machine_defs.specs.Calling.{with_fuel}
+use Rattle.machine_defs.specs.CallRows.{numbered, Refuses}
+use Rattle.machine_defs.specs.Sound.{own_of, own_of_body}
 use Rattle.machine_laws.specs.Ledger.{LedgerFrame, Ledger}
 use Rattle.machine_laws.specs.LedgerOf.{ledger_of}
 use Rattle.machine_laws.specs.LedgerSound.{Owned}
 use Rattle.machine_laws.specs.LedgerRows.{Row}
 use Rattle.machine_laws.specs.Shape.{Laid}
-use Rattle.machine_laws.specs.Plans.{Plans}
-use Rattle.machine_laws.specs.Registers.{HasTables, own}
+use Rattle.machine_laws.specs.Plans.{Plans, HasTables}
+use Rattle.machine_laws.specs.Registers.{own}
 use Rattle.machine_laws.specs.Fitting.{Fitting}
 use Rattle.machine_laws.proofs.Rows.{at_same, row_set_same, row_within}
 use Rattle.machine_laws.proofs.Stacks.{top_pushed}
@@ -46,7 +51,7 @@ use Rattle.machine_laws.proofs.OwnActs.{waiting as waiting_stand}
 use Rattle.machine_laws.proofs.OwnAnswers.{GainsOwn, waiting_gains}
 use Rattle.rl_defs.specs.Domains.{method_of}
 use Rattle.rl_defs.specs.CodeNames.{method_at, method_of_function}
-use Rattle.rl_defs.specs.CodeLaws.{StandsAt}
+use Rattle.machine_defs.specs.CodeLaws.{StandsAt}
 use Rattle.machine_laws.proofs.OwnFunctions.{instr_here, answer_function}
 use Rattle.machine_laws.proofs.CodeDoing.{has_tables, keeps_rules}
 use Rattle.machine_laws.proofs.Callers.{calling, caller_frame, waits, waits_same, code_calls, code_waits}
@@ -54,13 +59,14 @@ use Rattle.machine_laws.proofs.CallSteps.{ClientsCall, called}
 use Rattle.machine_laws.proofs.EndSteps.{loads_by, reply_instances}
 use Rattle.machine_laws.proofs.Charged.{charged_is, stack_charged, instances_charged, native_waits}
 use Rattle.machine_laws.proofs.LaidRows.{laid_same, laid_without}
+use Rattle.machine_laws.proofs.Parts.{stand_after}
 
 -- a reply by which the caller's own objects stay as many
-pub record KeepsReplied (L : Load) (s : State) (t : ℕ) (a : Answer) (z : State) : Type 0 where
+pub record KeepsReplied (L : LoadRows) (s : State) (t : ℕ) (a : Answer) (z : State) : Type 0 where
   pub replied : Replied L s t a z
   pub same : (o : ℕ) → count o replied.own ≡ count o replied.g.own
 
-module _ (L : Load) (s : State) (plans : Plans L) (tables : HasTables L.tables) (laid : Laid L s) (owned : Owned L (ledger_of L s)) (fits : Fitting L s) (t : ℕ) (ready : is_undone (row s.threads t) ≡ true) (w : Wish) where
+module _ (L : LoadRows) (s : State) (plans : Plans L) (tables : HasTables L.tables) (laid : Laid L s) (owned : Owned L (ledger_of L s)) (fits : Fitting L s) (t : ℕ) (ready : is_undone (row s.threads t) ≡ true) (w : Wish) where
   -- a frame that waits goes on from a failure with the objects that it has
   module _ (wished : FrameWish L s t w) (z : State) (after : StackFrame) (why : RpcCode) (load' : (i : ℕ) → instance_load z i ≡ instance_load s i) where
     abbrev pub f : StackFrame
@@ -141,7 +147,7 @@ module _ (L : Load) (s : State) (plans : Plans L) (tables : HasTables L.tables) 
       lives : is_live w.charged waiting_frame.instance ≡ true
       lives =
           let same : waiting_frame.instance ≡ (caller_frame L s t plans tables laid owned fits ready w wished).instance = ap (λ (h : StackFrame). h.instance) (waits_same L s t plans tables laid owned fits ready w wished) in
-          ap (λ is'. Rattle.rl_defs.specs.State.lives (row is' waiting_frame.instance)) (instances_charged L s plans tables laid owned fits t ready w wished) ∙ ap (is_live s) same ∙ (calling L s t plans tables laid owned fits ready w wished).lives
+          ap (λ is'. Rattle.machine_defs.specs.State.lives (row is' waiting_frame.instance)) (instances_charged L s plans tables laid owned fits t ready w wished) ∙ ap (is_live s) same ∙ (calling L s t plans tables laid owned fits ready w wished).lives
 
       pub frame_keeps : KeepsReplied L (refused_state c) t (answer.Failed why) z
       frame_keeps =
@@ -165,10 +171,10 @@ module _ (L : Load) (s : State) (plans : Plans L) (tables : HasTables L.tables) 
           let answers : AnswersClient L (refused_state c) t (answer.Failed why) z = subst (λ found. AnswersTop L (refused_state c) t (answer.Failed why) found z) none replies in
           record {
             replied = client_replied L (refused_state c) t answers.thread (answer.Failed why) z laid_refused answers.of none answers;
-            same = λ o. ap (λ ns. count o (filter_map Rattle.rl_defs.specs.Machine.Sound.object_held ns)) (bind_none (names_of (Rattle.std.specs.Prelude.slice_get (commands_of (row L.clients t)) answers.thread.place)) answers.thread.names);
+            same = λ o. ap (λ ns. count o (filter_map Rattle.machine_defs.specs.Sound.object_held ns)) (bind_none (names_of (Rattle.std.specs.Prelude.slice_get (commands_of (row L.clients t)) answers.thread.place)) answers.thread.names);
           }
 
-module _ (L : Load) (s : State) (plans : Plans L) (tables : HasTables L.tables) (laid : Laid L s) (owned : Owned L (ledger_of L s)) (fits : Fitting L s) (clients : ClientsCall L s) where
+module _ (L : LoadRows) (s : State) (plans : Plans L) (tables : HasTables L.tables) (laid : Laid L s) (owned : Owned L (ledger_of L s)) (fits : Fitting L s) (clients : ClientsCall L s) where
   pub refuses : (t c x m : ℕ) (why : RpcCode) (args : List Arg) (z : State) → is_undone (row s.threads t) ≡ true → Refuses L s t c why x m args z → Row L (ledger_of L s) (entry.Refuse t c why x m args) (ledger_of L z)
   refuses t c x m why args z ready r =
       let w : Wish = record { target = x; method = m; args = args; charged = r.charged } in

@@ -1,32 +1,35 @@
--- Stacks fit behind a refused call.
+-- Stacks fit after a refused call.
 use Rattle.std.proofs.Common.{◌≡◌, ◌≢◌, ℕ, ◌<◌, ◌≤◌, true, List, [], ◌∷◌, ◌++◌, length, Some, None, refl, ap, sym, subst, ◌∙◌, arith, inl, inr}
-use Rattle.rl_defs.specs.declared.values.Arg.{Arg}
-use Rattle.rl_defs.specs.declared.values.RpcCode.{RpcCode}
-use Rattle.rl_defs.specs.declared.entry.Entry.{Entry}
-use Rattle.rl_defs.specs.declared.entry.Entry.TheVariants as entry
-use Rattle.rl_defs.specs.declared.frame.Action.{Action}
-use Rattle.rl_defs.specs.declared.frame.Action.TheVariants as action
-use Rattle.rl_defs.specs.declared.frame.Answer.TheVariants as answer
-use Rattle.rl_defs.specs.declared.frame.FrameBody.{FrameBody}
-use Rattle.rl_defs.specs.declared.frame.FrameBody.TheVariants as body
-use Rattle.rl_defs.specs.declared.load.Load.{Load}
+use Rattle.machine_defs.specs.declared.values.Arg.{Arg}
+use Rattle.machine_defs.specs.declared.values.RpcCode.{RpcCode}
+use Rattle.machine_defs.specs.declared.entry.Entry.{Entry}
+use Rattle.machine_defs.specs.declared.entry.Entry.TheVariants as entry
+use Rattle.machine_defs.specs.declared.frame.Action.{Action}
+use Rattle.machine_defs.specs.declared.frame.Action.TheVariants as action
+use Rattle.machine_defs.specs.declared.frame.Answer.TheVariants as answer
+use Rattle.machine_defs.specs.declared.frame.FrameBody.{FrameBody}
+use Rattle.machine_defs.specs.declared.frame.FrameBody.TheVariants as body
+use Rattle.rl_defs.specs.declared.load.LoadRows.{LoadRows}
 use Rattle.rl_defs.specs.declared.load.Command.TheVariants as command
 use Rattle.rl_defs.specs.DomainValue.{Domain}
 use Rattle.rl_defs.specs.Domains.{is_native}
-use Rattle.rl_defs.specs.State.{State, StackFrame, row, is_live, stack, frames_of}
-use Rattle.rl_defs.specs.Loans.{sweep as sweep_state}
-use Rattle.rl_defs.specs.Crossing.{Wish, is_undone, moved_of}
-use Rattle.rl_defs.specs.Wanted.{top, instance_load, Commands}
-use Rattle.rl_defs.specs.Machine.Objects.{without}
-use Rattle.rl_defs.specs.Machine.Seen.{domain_of_load, domain_of_instance}
-use Rattle.rl_defs.specs.Machine.NativeFits.{types_of}
-use Rattle.rl_defs.specs.Machine.Frames.{below_top, with_body, held_after, AnswersBody, AnswersTop, AnswersFrame, AnswersLive, AnswersClient}
-use Rattle.rl_defs.specs.Machine.CallRows.{Refuses, numbered}
+use Rattle.machine_defs.specs.State.{State, StackFrame, is_live, stack, frames_of}
+use Rattle.rl_defs.specs.Rows.{row}
+use Rattle.machine_defs.specs.Loans.{sweep as sweep_state}
+use Rattle.machine_defs.specs.Calling.{Wish, is_undone}
+use Rattle.machine_defs.specs.Arguments.{moved_of}
+use Rattle.machine_defs.specs.State.{top, instance_load}
+use Rattle.machine_defs.specs.Wants.{Commands}
+use Rattle.machine_defs.specs.Objects.{without}
+use Rattle.rl_defs.specs.Rows.{domain_of_load}
+use Rattle.machine_defs.specs.Seen.{domain_of_instance}
+use Rattle.machine_defs.specs.Seen.{types_of}
+use Rattle.machine_defs.specs.Frames.{below_top, with_body, held_after, AnswersBody, AnswersTop, AnswersFrame, AnswersLive, AnswersClient}
+use Rattle.machine_defs.specs.CallRows.{Refuses, numbered}
 use Rattle.machine_laws.specs.LedgerOf.{ledger_of}
 use Rattle.machine_laws.specs.LedgerSound.{Owned, Placed}
 use Rattle.machine_laws.specs.Shape.{Laid}
-use Rattle.machine_laws.specs.Plans.{Plans}
-use Rattle.machine_laws.specs.Registers.{HasTables}
+use Rattle.machine_laws.specs.Plans.{Plans, HasTables}
 use Rattle.machine_laws.specs.Fitting.{BodyFits, StackFits, Fitting}
 use Rattle.machine_laws.proofs.Rows.{row_set_same, row_set_other}
 use Rattle.machine_laws.proofs.Stacks.{top_splits, top_pushed, below_pushed}
@@ -43,7 +46,7 @@ use Rattle.machine_laws.proofs.RefuseSteps.{code_failed}
 use Rattle.machine_laws.proofs.EndSteps.{loads_by, reply_instances, ready_within}
 use Rattle.machine_laws.proofs.Charged.{stack_charged, instances_charged, others_charged, count_charged, native_waits}
 
-module _ (L : Load) (s : State) (plans : Plans L) (tables : HasTables L.tables) (laid : Laid L s) (owned : Owned L (ledger_of L s)) (placed : Placed L (ledger_of L s)) (fits : Fitting L s) (t c x m : ℕ) (why : RpcCode) (args : List Arg) (made : State)
+module _ (L : LoadRows) (s : State) (plans : Plans L) (tables : HasTables L.tables) (laid : Laid L s) (owned : Owned L (ledger_of L s)) (placed : Placed L (ledger_of L s)) (fits : Fitting L s) (t c x m : ℕ) (why : RpcCode) (args : List Arg) (made : State)
     (ready : is_undone (row s.threads t) ≡ true) (r : Refuses L s t c why x m args made) (owned' : Owned L (ledger_of L (sweep_state made))) where
   abbrev z : State
   z = sweep_state made
@@ -89,7 +92,7 @@ module _ (L : Load) (s : State) (plans : Plans L) (tables : HasTables L.tables) 
     live : AnswersLive L refused t g (answer.Failed why) made
     live =
         let on_top : top (stack refused t) ≡ Some g = ap top refused_here ∙ top_pushed below g in
-        let lives : is_live refused g.instance ≡ true = ap (λ is'. Rattle.rl_defs.specs.State.lives (row is' g.instance)) instances ∙ ap (λ (h : StackFrame). is_live s h.instance) g_is ∙ lives_before in
+        let lives : is_live refused g.instance ≡ true = ap (λ is'. Rattle.machine_defs.specs.State.lives (row is' g.instance)) instances ∙ ap (λ (h : StackFrame). is_live s h.instance) g_is ∙ lives_before in
         let answers : AnswersTop L refused t (answer.Failed why) (Some g) made = subst (λ found. AnswersTop L refused t (answer.Failed why) found made) on_top r.replies in
         subst (λ b. AnswersFrame L refused t g (answer.Failed why) b made) lives answers
 

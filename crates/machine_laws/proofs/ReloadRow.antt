@@ -3,17 +3,16 @@ use Rattle.std.proofs.Common.{◌≡◌, ◌≢◌, ℕ, zero, suc, ◌+◌, ◌
 use mathlib.Core.Path.{fun_ext}
 use Rattle.std.specs.List.{slice_index_or}
 use Rattle.std.proofs.lemmas.Bool.{cases_eq}
-use Rattle.rl_defs.specs.declared.entry.Entry.TheVariants as entry
-use Rattle.rl_defs.specs.declared.load.Load.{Load}
+use Rattle.machine_defs.specs.declared.entry.Entry.TheVariants as entry
+use Rattle.rl_defs.specs.declared.load.LoadRows.{LoadRows}
 use Rattle.rl_defs.specs.declared.load.LoadRow.{LoadRow}
 use Rattle.rl_defs.specs.Domains.{load_row, load_of_target, domain_of, words_of, slots_of}
-use Rattle.rl_defs.specs.State.{State, Instance, Shadow, Thread, row, lives, is_live, current, current_of, first_instance}
-use Rattle.rl_defs.specs.Wanted.{load_of_instance}
-use Rattle.rl_defs.specs.Crossing.{is_undone}
-use Rattle.rl_defs.specs.Machine.Seen.{words_in, slots_in}
-use Rattle.rl_defs.specs.Machine.NativeFits.{is_target}
-use Rattle.rl_defs.specs.Machine.Calling.{left_of, restarts_left, is_shadow}
-use Rattle.rl_defs.specs.Machine.CallRows.{instance_for, reloaded, Reloads}
+use Rattle.machine_defs.specs.State.{State, Instance, Shadow, Thread, lives, is_live, current, current_of, first_instance}
+use Rattle.rl_defs.specs.Rows.{row}
+use Rattle.machine_defs.specs.Calling.{is_undone}
+use Rattle.rl_defs.specs.Rows.{is_target}
+use Rattle.machine_defs.specs.Calling.{restarts_left, is_shadow}
+use Rattle.machine_defs.specs.CallRows.{reloaded, Reloads}
 use Rattle.machine_laws.specs.Ledger.{at}
 use Rattle.machine_laws.specs.LedgerOf.{ledger_of}
 use Rattle.machine_laws.specs.LedgerRows.{Row}
@@ -22,6 +21,7 @@ use Rattle.machine_laws.proofs.Rows.{at_same, at_other, row_within, row_set_same
 use Rattle.machine_laws.proofs.Tops.{client_within, undone}
 use Rattle.machine_laws.proofs.Instances.{words_read}
 use Rattle.machine_laws.proofs.CallingRows.{current_same}
+use Rattle.machine_laws.proofs.Parts.{load_of_instance, words_in, slots_in, left_of, instance_for}
 
 -- the row of a list with one more
 pub row_append_last : {A : Type 0} (xs : List A) (y : A) → row (xs ++ y ∷ []) (length xs + 1) ≡ Some y
@@ -52,7 +52,7 @@ empties [] k o e = cc
 empties (n ∷ names) zero o e = cc
 empties (n ∷ names) (suc k) o e = empties names k o e
 
-module _ (L : Load) (s z : State) (t x i left : ℕ) (laid : Laid L s) (thread : Thread) (of : row s.threads t ≡ Some thread) (ready : is_undone (row s.threads t) ≡ true) (r : Reloads L s t x i left z)
+module _ (L : LoadRows) (s z : State) (t x i left : ℕ) (laid : Laid L s) (thread : Thread) (of : row s.threads t ≡ Some thread) (ready : is_undone (row s.threads t) ≡ true) (r : Reloads L s t x i left z)
     (target : is_target L x ≡ true) (l : LoadRow) (loaded : load_row L (load_of_target L x) ≡ Some l) where
   abbrev fresh : Instance
   fresh = first_instance L (load_of_target L x) l

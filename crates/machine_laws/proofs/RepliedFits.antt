@@ -1,27 +1,29 @@
--- Stacks fit behind a return and an unwound call.
+-- Stacks fit after a return and an unwound call.
 use Rattle.std.proofs.Common.{◌≡◌, ◌≢◌, ℕ, ◌-◌, ◌<◌, ◌≤◌, Bool, true, false, List, [], ◌∷◌, ◌++◌, length, Option, Some, None, slice_set, refl, ap, sym, subst, ◌∙◌, arith, append_assoc}
 use Rattle.std.proofs.lemmas.List.{length-set}
-use Rattle.rl_defs.specs.declared.entry.Entry.{Entry}
+use Rattle.machine_defs.specs.declared.entry.Entry.{Entry}
 use Rattle.rl_defs.specs.declared.tables.MethodRow.{MethodRow}
-use Rattle.rl_defs.specs.declared.frame.Action.{Action}
-use Rattle.rl_defs.specs.declared.frame.Answer.{Answer}
-use Rattle.rl_defs.specs.declared.frame.FrameBody.{FrameBody}
-use Rattle.rl_defs.specs.declared.frame.FrameBody.TheVariants as body
-use Rattle.rl_defs.specs.declared.load.Load.{Load}
+use Rattle.machine_defs.specs.declared.frame.Action.{Action}
+use Rattle.machine_defs.specs.declared.frame.Answer.{Answer}
+use Rattle.machine_defs.specs.declared.frame.FrameBody.{FrameBody}
+use Rattle.machine_defs.specs.declared.frame.FrameBody.TheVariants as body
+use Rattle.rl_defs.specs.declared.load.LoadRows.{LoadRows}
 use Rattle.rl_defs.specs.Domains.{method_of, is_native}
-use Rattle.rl_defs.specs.State.{State, StackFrame, Thread, row, is_live, stack, frames_of}
-use Rattle.rl_defs.specs.Loans.{count, sweep as sweep_state}
-use Rattle.rl_defs.specs.Crossing.{has}
-use Rattle.rl_defs.specs.Wanted.{top, instance_load}
-use Rattle.rl_defs.specs.Machine.Seen.{domain_of_load, domain_of_instance}
-use Rattle.rl_defs.specs.Machine.NativeFits.{types_of}
-use Rattle.rl_defs.specs.Machine.Frames.{below_top, AnswersBody, Replies, AnswersTop, AnswersFrame, AnswersLive, held_after}
-use Rattle.rl_defs.specs.Machine.Steps.{Row as RowOf}
+use Rattle.machine_defs.specs.State.{State, StackFrame, Thread, is_live, stack, frames_of}
+use Rattle.rl_defs.specs.Rows.{row}
+use Rattle.machine_defs.specs.Loans.{count, sweep as sweep_state}
+use Rattle.machine_defs.specs.Arguments.{has}
+use Rattle.machine_defs.specs.State.{top, instance_load}
+use Rattle.rl_defs.specs.Rows.{domain_of_load}
+use Rattle.machine_defs.specs.Seen.{domain_of_instance}
+use Rattle.machine_defs.specs.Seen.{types_of}
+use Rattle.machine_defs.specs.Frames.{below_top, AnswersBody, Replies, AnswersTop, AnswersFrame, AnswersLive, held_after}
+use Rattle.machine_defs.specs.Steps.{Row as RowOf}
 use Rattle.machine_laws.specs.LedgerOf.{ledger_of}
 use Rattle.machine_laws.specs.LedgerSound.{Owned, Placed}
 use Rattle.machine_laws.specs.Shape.{Laid}
-use Rattle.machine_laws.specs.Plans.{Plans}
-use Rattle.machine_laws.specs.Registers.{HasTables, received}
+use Rattle.machine_laws.specs.Plans.{Plans, HasTables}
+use Rattle.machine_laws.specs.Registers.{received}
 use Rattle.machine_laws.specs.Fitting.{BodyFits, StackFits, Fitting}
 use Rattle.machine_laws.proofs.Rows.{row_set_same, row_set_other}
 use Rattle.machine_laws.proofs.Stacks.{top_none, top_splits}
@@ -36,7 +38,7 @@ use Rattle.machine_laws.proofs.DoingFits.{code_on_top, native_on_top}
 use Rattle.machine_laws.proofs.DoneFits.{types_kept}
 use Rattle.machine_laws.proofs.WaitingAnswers.{IsReply, ReplySuits, code_replied}
 
-module _ (L : Load) (s : State) (e : Entry) (made : State) (plans : Plans L) (tables : HasTables L.tables) (laid : Laid L s) (owned : Owned L (ledger_of L s)) (placed : Placed L (ledger_of L s)) (fits : Fitting L s) (r : RowOf L s e made) (owned' : Owned L (ledger_of L (sweep_state made))) (old : IsNew e → ⊥)
+module _ (L : LoadRows) (s : State) (e : Entry) (made : State) (plans : Plans L) (tables : HasTables L.tables) (laid : Laid L s) (owned : Owned L (ledger_of L s)) (placed : Placed L (ledger_of L s)) (fits : Fitting L s) (r : RowOf L s e made) (owned' : Owned L (ledger_of L (sweep_state made))) (old : IsNew e → ⊥)
     (t : ℕ) (thread : Thread) (of : row s.threads t ≡ Some thread) (f : StackFrame) (on_top : top (stack s t) ≡ Some f) (s' : State) (stacks' : s'.stacks ≡ slice_set s.stacks (t - 1) (below_top (stack s t))) (instances' : s'.instances ≡ s.instances)
     (a : Answer) (reply : IsReply a) (method : MethodRow) (called : method_of L f.target f.method ≡ Some method) (suits : ReplySuits (types_of L s) method.results a) (unlent : (g : StackFrame) (below above : List StackFrame) → stack s t ≡ below ++ g ∷ above → (p : ℕ) → 0 < count p (received a) → has g.lent p ≡ false)
     (load' : (i : ℕ) → instance_load made i ≡ instance_load s i) (replies : Replies L s' t a made) where
@@ -125,5 +127,5 @@ module _ (L : Load) (s : State) (e : Entry) (made : State) (plans : Plans L) (ta
       by_top : (found : Option StackFrame) → top left ≡ found → AnswersTop L s' t a found made → (u : ℕ) → StackFits L z (stack z u)
       by_top None is answers u = none_fits is (ap (λ (st : State). st.stacks) answers.becomes) u
       by_top (Some g) is answers u =
-          let same : is_live s' g.instance ≡ is_live s g.instance = ap (λ is'. Rattle.rl_defs.specs.State.lives (row is' g.instance)) instances' in
+          let same : is_live s' g.instance ≡ is_live s g.instance = ap (λ is'. Rattle.machine_defs.specs.State.lives (row is' g.instance)) instances' in
           by_live g is (is_live s g.instance) refl (subst (λ b. AnswersFrame L s' t g a b made) same answers) u

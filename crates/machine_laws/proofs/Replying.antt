@@ -2,13 +2,14 @@
 use Rattle.std.proofs.Common.{◌≡◌, ℕ, List, [], ◌∷◌, Some, None, refl, ap, sym, ◌∙◌, inl, inr}
 use mathlib.Core.Path.{fun_ext}
 use Rattle.std.proofs.lemmas.Bool.{cases_eq}
-use Rattle.rl_defs.specs.declared.frame.Answer.{Answer}
-use Rattle.rl_defs.specs.declared.load.Load.{Load}
-use Rattle.rl_defs.specs.State.{State, StackFrame, Thread, row, stack, with_thread}
-use Rattle.rl_defs.specs.Wanted.{top}
-use Rattle.rl_defs.specs.Step.{after_command}
-use Rattle.rl_defs.specs.Machine.Frames.{AnswersLive, AnswersClient, owner_acting, acting, with_top, results_in}
-use Rattle.rl_defs.specs.Machine.Sound.{own_of}
+use Rattle.machine_defs.specs.declared.frame.Answer.{Answer}
+use Rattle.rl_defs.specs.declared.load.LoadRows.{LoadRows}
+use Rattle.machine_defs.specs.State.{State, StackFrame, Thread, stack, with_thread}
+use Rattle.rl_defs.specs.Rows.{row}
+use Rattle.machine_defs.specs.State.{top}
+use Rattle.machine_defs.specs.Frames.{after_command}
+use Rattle.machine_defs.specs.Frames.{AnswersLive, AnswersClient, acting, with_top, results_in}
+use Rattle.machine_defs.specs.Sound.{own_of}
 use Rattle.machine_laws.specs.Ledger.{LedgerFrame, at}
 use Rattle.machine_laws.specs.LedgerOf.{frame_entry, names_held, ledger_of}
 use Rattle.machine_laws.specs.LedgerRows.{with_own}
@@ -18,6 +19,7 @@ use Rattle.machine_laws.proofs.Stacks.{top_none}
 use Rattle.machine_laws.proofs.Tops.{bottom, under, entries_top}
 use Rattle.machine_laws.proofs.FrameRows.{answered_same}
 use Rattle.machine_laws.proofs.Pushing.{gone_ledger, thread_ledger}
+use Rattle.machine_laws.proofs.Parts.{owner_acting}
 
 pub at_self : {A : Type 0} (k : ℕ) (f : ℕ → A) → at k (f k) f ≡ f
 at_self k f = fun_ext (λ j. elim (cases_eq j k) [
@@ -28,9 +30,9 @@ at_self k f = fun_ext (λ j. elim (cases_eq j k) [
 pub thread_self : (s : State) (t : ℕ) (thread : Thread) → row s.threads t ≡ Some thread → with_thread s t thread ≡ s
 thread_self s t thread is = ap (λ (ts : List Thread). record s { threads = ts }) (row_set_self s.threads t thread is)
 
--- Who gets the answer has these frames in the ledger, and these objects behind it. A client's are those of its names, a live frame's those of the
+-- Who gets the answer has these frames in the ledger, and these objects after it. A client's are those of its names, a live frame's those of the
 -- frame that goes on, and a dead frame's stay.
-pub record Replied (L : Load) (s : State) (t : ℕ) (a : Answer) (z : State) : Type 0 where
+pub record Replied (L : LoadRows) (s : State) (t : ℕ) (a : Answer) (z : State) : Type 0 where
   pub g : LedgerFrame
   pub fs : List LedgerFrame
   pub own : List ℕ
@@ -38,7 +40,7 @@ pub record Replied (L : Load) (s : State) (t : ℕ) (a : Answer) (z : State) : T
   pub party : g.party ≡ acting s t
   pub ledger : ledger_of L z ≡ record (ledger_of L s) { stack = with_own t g own fs ((ledger_of L s).stack) }
 
-module _ (L : Load) (s : State) (t : ℕ) (thread : Thread) (a : Answer) (z : State) (laid : Laid L s) (of : row s.threads t ≡ Some thread) where
+module _ (L : LoadRows) (s : State) (t : ℕ) (thread : Thread) (a : Answer) (z : State) (laid : Laid L s) (of : row s.threads t ≡ Some thread) where
   -- a client that gets the answer
   abbrev pub client_replied : top (stack s t) ≡ None → AnswersClient L s t a z → Replied L s t a z
   client_replied none answers =

@@ -4,32 +4,35 @@ use Rattle.std.specs.List.{filter_map}
 use Rattle.std.proofs.lemmas.Bool.{false_from_ne_true}
 use Rattle.rl_defs.specs.declared.values.Value.{Value}
 use Rattle.rl_defs.specs.declared.tables.MethodRow.{MethodRow}
-use Rattle.rl_defs.specs.declared.frame.Action.{Action}
-use Rattle.rl_defs.specs.declared.frame.Action.TheVariants as action
-use Rattle.rl_defs.specs.declared.frame.Answer.{Answer}
-use Rattle.rl_defs.specs.declared.frame.FrameBody.{FrameBody}
-use Rattle.rl_defs.specs.declared.frame.FrameBody.TheVariants as body
-use Rattle.rl_defs.specs.declared.load.Load.{Load}
+use Rattle.machine_defs.specs.declared.frame.Action.{Action}
+use Rattle.machine_defs.specs.declared.frame.Action.TheVariants as action
+use Rattle.machine_defs.specs.declared.frame.Answer.{Answer}
+use Rattle.machine_defs.specs.declared.frame.FrameBody.{FrameBody}
+use Rattle.machine_defs.specs.declared.frame.FrameBody.TheVariants as body
+use Rattle.rl_defs.specs.declared.load.LoadRows.{LoadRows}
 use Rattle.rl_defs.specs.Domains.{method_of}
 use Rattle.rl_defs.specs.CodeNames.{results_of, method_at}
-use Rattle.rl_defs.specs.State.{State, StackFrame, Thread, Placement, Root, row, is_live, current, stack, with_thread}
-use Rattle.rl_defs.specs.Loans.{count}
-use Rattle.rl_defs.specs.Step.{after_command}
-use Rattle.rl_defs.specs.Wanted.{Acts, top, instance_load}
-use Rattle.rl_defs.specs.Crossing.{has}
-use Rattle.rl_defs.specs.Machine.Seen.{domain_of_instance}
-use Rattle.rl_defs.specs.Machine.NativeFits.{types_of, values_suit, CanReturn, CanChoose}
-use Rattle.rl_defs.specs.Machine.Wants.{by_body}
-use Rattle.rl_defs.specs.Machine.Frames.{below_top, results_in, Replies, AnswersTop, AnswersFrame, AnswersLive, AnswersClient}
-use Rattle.rl_defs.specs.Machine.History.{objects_in}
-use Rattle.rl_defs.specs.Machine.Sound.{own_of, own_of_body}
+use Rattle.machine_defs.specs.State.{State, StackFrame, Thread, Placement, Root, is_live, current, stack, with_thread}
+use Rattle.rl_defs.specs.Rows.{row}
+use Rattle.machine_defs.specs.Loans.{count}
+use Rattle.machine_defs.specs.Frames.{after_command}
+use Rattle.machine_defs.specs.Wants.{Acts}
+use Rattle.machine_defs.specs.State.{top, instance_load}
+use Rattle.machine_defs.specs.Arguments.{has}
+use Rattle.machine_defs.specs.Seen.{domain_of_instance}
+use Rattle.machine_defs.specs.NativeFits.{values_suit, CanReturn, CanChoose}
+use Rattle.machine_defs.specs.Seen.{types_of}
+use Rattle.machine_defs.specs.Wants.{by_body}
+use Rattle.machine_defs.specs.Frames.{below_top, results_in, Replies, AnswersTop, AnswersFrame, AnswersLive, AnswersClient}
+use Rattle.machine_defs.specs.Arguments.{objects_in}
+use Rattle.machine_defs.specs.Sound.{own_of, own_of_body}
 use Rattle.machine_laws.specs.Ledger.{LedgerFrame, Ledger, alive, loans}
 use Rattle.machine_laws.specs.LedgerOf.{frame_entry, names_held, ledger_of}
 use Rattle.machine_laws.specs.LedgerSound.{Owned}
 use Rattle.machine_laws.specs.LedgerRows.{Runs, Exchanged}
 use Rattle.machine_laws.specs.Shape.{Laid}
-use Rattle.machine_laws.specs.Plans.{Plans}
-use Rattle.machine_laws.specs.Registers.{HasTables, own, received}
+use Rattle.machine_laws.specs.Plans.{Plans, HasTables}
+use Rattle.machine_laws.specs.Registers.{own, received}
 use Rattle.machine_laws.specs.Fitting.{BodyFits, CallFits, CallsFit, StackFits, Fitting}
 use Rattle.machine_laws.proofs.Stacks.{top_splits}
 use Rattle.machine_laws.proofs.Tops.{under, bottom}
@@ -49,18 +52,18 @@ ret_no_trap : (results : List Value) → NotTrap (action.Ret results)
 ret_no_trap results c e = cc
 
 -- What a frame returns: all that it has of its own, as values of its method's results.
-pub record ReturnsWell (L : Load) (s : State) (f : StackFrame) (results : List Value) : Type 0 where
+pub record ReturnsWell (L : LoadRows) (s : State) (f : StackFrame) (results : List Value) : Type 0 where
   pub all : (p : ℕ) → count p (objects_in results) ≡ count p (own_of f)
   pub method : MethodRow
   pub row : method_of L f.target f.method ≡ Some method
   pub suits : values_suit (types_of L s) method.results results ≡ true
 
 -- what a client gets for its call in the end, from its script: the objects that it is answered, in its names
-abbrev pub ClientGets : Load → State → Type 0
+abbrev pub ClientGets : LoadRows → State → Type 0
 ClientGets L s = (t : ℕ) (f : StackFrame) (a : Answer) (method : MethodRow) (thread : Thread) → stack s t ≡ f ∷ [] → method_of L f.target f.method ≡ Some method → IsReply a → ReplySuits (types_of L s) method.results a
     → row s.threads t ≡ Some thread → Exchanged (names_held (Some thread)) [] (received a) (names_held (Some (after_command L t thread (results_in a))))
 
-module _ (L : Load) (s : State) (plans : Plans L) (tables : HasTables L.tables) (laid : Laid L s) (owned : Owned L (ledger_of L s)) (fits : Fitting L s) where
+module _ (L : LoadRows) (s : State) (plans : Plans L) (tables : HasTables L.tables) (laid : Laid L s) (owned : Owned L (ledger_of L s)) (fits : Fitting L s) where
   pub returns_well : (t fuel : ℕ) (results : List Value) (frame : StackFrame) (doing : ActsAs L s t (action.Ret results) fuel frame) → ReturnsWell L s doing.f results
   returns_well t fuel results frame doing = go doing.f.body refl
     where
@@ -101,7 +104,7 @@ module _ (L : Load) (s : State) (plans : Plans L) (tables : HasTables L.tables) 
       omega (arith, none, counted, in_stack, in_all)))
 
 -- a state in which a thread's top frame was popped, with the same instances, and its thread the same but for its fuel
-pub record PoppedTo (L : Load) (s : State) (t : ℕ) (thread new : Thread) (s' : State) : Type 0 where
+pub record PoppedTo (L : LoadRows) (s : State) (t : ℕ) (thread new : Thread) (s' : State) : Type 0 where
   pub laid : Laid L s'
   pub stack : stack s' t ≡ below_top (stack s t)
   pub instances : s'.instances ≡ s.instances
@@ -110,11 +113,11 @@ pub record PoppedTo (L : Load) (s : State) (t : ℕ) (thread new : Thread) (s' :
   pub place : new.place ≡ thread.place
 
 -- who gets the reply of a popped call, and what it has then
-pub record Gets (L : Load) (s s' : State) (t : ℕ) (a : Answer) (z : State) : Type 0 where
+pub record Gets (L : LoadRows) (s s' : State) (t : ℕ) (a : Answer) (z : State) : Type 0 where
   pub replied : Replied L s' t a z
   pub gains : alive (is_live s) replied.g.party ≡ true → Exchanged replied.g.own [] (received a) replied.own
 
-module _ (L : Load) (s : State) (plans : Plans L) (tables : HasTables L.tables) (laid : Laid L s) (owned : Owned L (ledger_of L s)) (fits : Fitting L s) (clients : ClientGets L s)
+module _ (L : LoadRows) (s : State) (plans : Plans L) (tables : HasTables L.tables) (laid : Laid L s) (owned : Owned L (ledger_of L s)) (fits : Fitting L s) (clients : ClientGets L s)
     (t : ℕ) (thread new : Thread) (s' z : State) (f : StackFrame) (a : Answer) (method : MethodRow) (of : row s.threads t ≡ Some thread) (on_top : top (stack s t) ≡ Some f) (popped' : PoppedTo L s t thread new s') (reply : IsReply a)
     (called : method_of L f.target f.method ≡ Some method) (suits : ReplySuits (types_of L s) method.results a) (unlent : (g : StackFrame) (below above : List StackFrame) → stack s t ≡ below ++ g ∷ above → (p : ℕ) → 0 < count p (received a) → has g.lent p ≡ false)
     (load' : (i : ℕ) → instance_load z i ≡ instance_load s i) (replies : Replies L s' t a z) where
@@ -142,7 +145,7 @@ module _ (L : Load) (s : State) (plans : Plans L) (tables : HasTables L.tables) 
         replied = client_replied L s' t new a z popped'.laid popped'.of none' answers;
         gains = λ lives.
             let trade = clients t f a method thread (alone none) called reply suits of in
-            let before : names_held (Some answers.thread) ≡ names_held (Some thread) = ap (λ (th : Thread). names_held (Some th)) same ∙ ap (λ ns. Rattle.std.specs.List.filter_map Rattle.rl_defs.specs.Machine.Sound.object_held ns) popped'.names in
+            let before : names_held (Some answers.thread) ≡ names_held (Some thread) = ap (λ (th : Thread). names_held (Some th)) same ∙ ap (λ ns. Rattle.std.specs.List.filter_map Rattle.machine_defs.specs.Sound.object_held ns) popped'.names in
             let behind : names_held (Some (after_command L t answers.thread (results_in a))) ≡ names_held (Some (after_command L t thread (results_in a))) = ap (λ (th : Thread). names_held (Some (after_command L t th (results_in a)))) same ∙ command_same popped'.names popped'.place in
             λ p. subst₂ (λ (xs : List ℕ) (ys : List ℕ). count p ys + 0 ≡ count p xs + count p (received a)) (sym before) (sym behind) (trade p);
       }
@@ -175,5 +178,5 @@ module _ (L : Load) (s : State) (plans : Plans L) (tables : HasTables L.tables) 
       by_top : (found : Option StackFrame) → top (below_top (stack s t)) ≡ found → AnswersTop L s' t a found z → Gets L s s' t a z
       by_top None is answers = client_gets is answers
       by_top (Some g) is answers =
-          let same : is_live s' g.instance ≡ is_live s g.instance = ap (λ is'. Rattle.rl_defs.specs.State.lives (row is' g.instance)) popped'.instances in
+          let same : is_live s' g.instance ≡ is_live s g.instance = ap (λ is'. Rattle.machine_defs.specs.State.lives (row is' g.instance)) popped'.instances in
           by_live g is (is_live s g.instance) refl (subst (λ b. AnswersFrame L s' t g a b z) same answers)

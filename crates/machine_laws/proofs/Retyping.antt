@@ -5,36 +5,40 @@ use Rattle.std.proofs.lemmas.Bool.{cases_Bool, eq-eqb, and_parts, or_left}
 use Rattle.std.proofs.lemmas.Option.{slice_get_past}
 use Rattle.rl_defs.specs.declared.values.Value.{Value}
 use Rattle.rl_defs.specs.declared.values.Value.TheVariants as value
-use Rattle.rl_defs.specs.declared.values.Arg.{Arg}
-use Rattle.rl_defs.specs.declared.values.Arg.TheVariants as arg
+use Rattle.machine_defs.specs.declared.values.Arg.{Arg}
+use Rattle.machine_defs.specs.declared.values.Arg.TheVariants as arg
 use Rattle.rl_defs.specs.declared.tables.Kind.{Kind}
 use Rattle.rl_defs.specs.declared.tables.Kind.TheVariants as kind
-use Rattle.rl_defs.specs.declared.frame.FrameBody.{FrameBody}
-use Rattle.rl_defs.specs.declared.frame.FrameBody.TheVariants as body
-use Rattle.rl_defs.specs.declared.frame.Action.{Action}
-use Rattle.rl_defs.specs.declared.frame.Action.TheVariants as action
-use Rattle.rl_defs.specs.declared.load.Load.{Load}
+use Rattle.machine_defs.specs.declared.frame.FrameBody.{FrameBody}
+use Rattle.machine_defs.specs.declared.frame.FrameBody.TheVariants as body
+use Rattle.machine_defs.specs.declared.frame.Action.{Action}
+use Rattle.machine_defs.specs.declared.frame.Action.TheVariants as action
+use Rattle.rl_defs.specs.declared.load.LoadRows.{LoadRows}
 use Rattle.rl_defs.specs.DomainValue.{Domain}
 use Rattle.rl_defs.specs.declared.code.Instr.{Instr}
 use Rattle.rl_defs.specs.declared.code.Instr.TheVariants as instr
 use Rattle.rl_defs.specs.Domains.{method_of, is_native}
 use Rattle.rl_defs.specs.CodeNames.{cells_of, method_at}
 use Rattle.rl_defs.specs.CodeKinds.{kinds_at, kind_in, left, method_called}
-use Rattle.rl_defs.specs.CodeFits.{Typing, FitsStand, FitsWaiting}
-use Rattle.rl_defs.specs.State.{State, StackFrame, Object}
-use Rattle.rl_defs.specs.Loans.{object_of}
-use Rattle.rl_defs.specs.Wanted.{instance_load}
-use Rattle.rl_defs.specs.Crossing.{has, moved_of, lent_of}
-use Rattle.rl_defs.specs.Step.{object_in}
-use Rattle.rl_defs.specs.Machine.Objects.{kinds_of}
-use Rattle.rl_defs.specs.Machine.Seen.{domain_of_load, domain_of_instance, words}
-use Rattle.rl_defs.specs.Machine.NativeFits.{types_of, struct_or_none, arg_suits, args_suit, value_suits, values_suit, CanChoose}
-use Rattle.rl_defs.specs.Machine.Frames.{instr_at}
-use Rattle.rl_defs.specs.Machine.Sound.{object_held}
+use Rattle.rl_defs.specs.Registers.{Typing}
+use Rattle.machine_defs.specs.CodeFits.{FitsStand, FitsWaiting}
+use Rattle.machine_defs.specs.State.{State, StackFrame, Object}
+use Rattle.machine_defs.specs.Loans.{object_of}
+use Rattle.machine_defs.specs.State.{instance_load}
+use Rattle.machine_defs.specs.Arguments.{has, moved_of, lent_of}
+use Rattle.machine_defs.specs.Arguments.{object_of_value}
+use Rattle.machine_defs.specs.Objects.{kinds_of}
+use Rattle.rl_defs.specs.Rows.{domain_of_load}
+use Rattle.machine_defs.specs.Seen.{domain_of_instance, words}
+use Rattle.machine_defs.specs.NativeFits.{arg_suits, args_suit, value_suits, values_suit, CanChoose}
+use Rattle.machine_defs.specs.Seen.{types_of}
+use Rattle.machine_defs.specs.Frames.{instr_at}
+use Rattle.machine_defs.specs.Sound.{object_held}
 use Rattle.machine_laws.specs.Registers.{Parted, Retyped}
 use Rattle.machine_laws.specs.Fitting.{CodeRuns, CodeWaits, BodyFits}
 use Rattle.machine_laws.proofs.OwnEntries.{stand_retyped, waiting_retyped}
 use Rattle.machine_laws.proofs.Counts.{has_counted, counted_has}
+use Rattle.machine_laws.proofs.Parts.{struct_or_none}
 
 -- the objects that a body has, of its own or lent
 abbrev pub body_objects : FrameBody Action → List ℕ
@@ -45,7 +49,7 @@ abbrev pub has_object : StackFrame → ℕ → Bool
 has_object f o = has (body_objects f.body) o || has f.lent o
 
 -- two states agree on a frame: on the structs of its objects, and on its instance's load and count of words
-pub record Agrees (L : Load) (s z : State) (f : StackFrame) : Type 0 where
+pub record Agrees (L : LoadRows) (s z : State) (f : StackFrame) : Type 0 where
   pub structs : (o : ℕ) → has_object f o ≡ true → (types_of L z).struct_of o ≡ (types_of L s).struct_of o
   pub load : instance_load z f.instance ≡ instance_load s f.instance
   pub words : length (words z f.instance) ≡ length (words s f.instance)
@@ -63,7 +67,7 @@ register_has (Some (value.Obj p) ∷ regs) (suc r) o is = let deeper = register_
 ]
 
 -- the kinds of an object's cells are those of its struct
-pub kinds_by_struct : (L : Load) (s : State) (o : ℕ) → kinds_of L (object_of s o) ≡ cells_of L.tables ((types_of L s).struct_of o)
+pub kinds_by_struct : (L : LoadRows) (s : State) (o : ℕ) → kinds_of L (object_of s o) ≡ cells_of L.tables ((types_of L s).struct_of o)
 kinds_by_struct L s o = go (object_of s o)
   where
     go : (x : Option Object) → kinds_of L x ≡ cells_of L.tables (struct_or_none L x)
@@ -128,15 +132,15 @@ value_same types other (kind.Own ty) (value.Obj o) objects targets is = rw (obje
 value_same types other (kind.Cap t) (value.Cap x) objects targets is = rw (targets x) is
 value_same types other k v objects targets is = absurd cc
 
-result_first : (v : Value) (values : List Value) (o : ℕ) → v ≡ value.Obj o → has (filter_map object_in (v ∷ values)) o ≡ true
+result_first : (v : Value) (values : List Value) (o : ℕ) → v ≡ value.Obj o → has (filter_map object_of_value (v ∷ values)) o ≡ true
 result_first v values o is = rw is (let e = eq-eqb o o refl in rw e refl)
 
-result_later : (v : Value) (values : List Value) (o : ℕ) → has (filter_map object_in values) o ≡ true → has (filter_map object_in (v ∷ values)) o ≡ true
+result_later : (v : Value) (values : List Value) (o : ℕ) → has (filter_map object_of_value values) o ≡ true → has (filter_map object_of_value (v ∷ values)) o ≡ true
 result_later (value.Obj p) values o is = elim (cases_Bool (p == o)) [ inl e ↦ rw e refl | inr e ↦ rw e is ]
 result_later (value.Num n) values o is = is
 result_later (value.Cap x) values o is = is
 
-pub values_same : (types other : Typing) (kinds : List Kind) (values : List Value) → ((o : ℕ) → has (filter_map object_in values) o ≡ true → other.struct_of o ≡ types.struct_of o) → ((x : ℕ) → other.trait_of x ≡ types.trait_of x)
+pub values_same : (types other : Typing) (kinds : List Kind) (values : List Value) → ((o : ℕ) → has (filter_map object_of_value values) o ≡ true → other.struct_of o ≡ types.struct_of o) → ((x : ℕ) → other.trait_of x ≡ types.trait_of x)
     → values_suit types kinds values ≡ true → values_suit other kinds values ≡ true
 values_same types other [] [] objects targets is = refl
 values_same types other (k ∷ kinds) (v ∷ values) objects targets is =
@@ -167,7 +171,7 @@ all_either xs ys (p ∷ os) is o h =
     ]
 
 -- what a native body may choose, it may choose on
-pub choice_kept : (L : Load) (s z : State) (f : StackFrame) (held : List ℕ) (act : Action) → ((o : ℕ) → (has held o || has f.lent o) ≡ true → (types_of L z).struct_of o ≡ (types_of L s).struct_of o) → instance_load z f.instance ≡ instance_load s f.instance → length (words z f.instance) ≡ length (words s f.instance)
+pub choice_kept : (L : LoadRows) (s z : State) (f : StackFrame) (held : List ℕ) (act : Action) → ((o : ℕ) → (has held o || has f.lent o) ≡ true → (types_of L z).struct_of o ≡ (types_of L s).struct_of o) → instance_load z f.instance ≡ instance_load s f.instance → length (words z f.instance) ≡ length (words s f.instance)
     → CanChoose L s f held act → CanChoose L z f held act
 choice_kept L s z f held (action.Set o k values) same load' words' can = record {
   holds = can.holds;
@@ -196,13 +200,13 @@ choice_kept L s z f held (action.Ret results) same load' words' can = record {
   method = can.method;
   row = can.row;
   suits = values_same (types_of L s) (types_of L z) can.method.results results
-      (λ o h. same o (or_left (has held o) (has f.lent o) (counted_has held o (let a = has_counted (filter_map object_in results) o h in let b = can.all o in omega (arith, a, b)))))
+      (λ o h. same o (or_left (has held o) (has f.lent o) (counted_has held o (let a = has_counted (filter_map object_of_value results) o h in let b = can.all o in omega (arith, a, b)))))
       (λ x. refl) can.suits;
   all = can.all;
 }
 choice_kept L s z f held other same load' words' can = can
 
-module _ (L : Load) (s z : State) (f : StackFrame) (agrees : Agrees L s z f) where
+module _ (L : LoadRows) (s z : State) (f : StackFrame) (agrees : Agrees L s z f) where
   domain_same : domain_of_instance L z f.instance ≡ domain_of_instance L s f.instance
   domain_same = ap (domain_of_load L) agrees.load
 
@@ -252,7 +256,7 @@ module _ (L : Load) (s z : State) (f : StackFrame) (agrees : Agrees L s z f) whe
   body_kept (g ∷ above) (body.Native held act) is fits = (moved' (λ d. is_native d.lines ≡ true) fits.0, fits.1)
 
 -- whatever stands above it, where that is for the same method
-pub above_same : (L : Load) (s : State) (f g h : StackFrame) (above : List StackFrame) (b : FrameBody Action) → h.target ≡ g.target → h.method ≡ g.method → h.args ≡ g.args → BodyFits L s f (g ∷ above) b → (rest : List StackFrame) → BodyFits L s f (h ∷ rest) b
+pub above_same : (L : LoadRows) (s : State) (f g h : StackFrame) (above : List StackFrame) (b : FrameBody Action) → h.target ≡ g.target → h.method ≡ g.method → h.args ≡ g.args → BodyFits L s f (g ∷ above) b → (rest : List StackFrame) → BodyFits L s f (h ∷ rest) b
 above_same L s f g h above (body.Code at regs) target method args fits rest = (
   fits.0,
   record {

@@ -1,7 +1,7 @@
 -- Rows of a list by their numbers, from 1.
 use Rattle.std.proofs.Common.{◌≡◌, ◌≢◌, ℕ, zero, suc, ◌-◌, ◌<◌, ◌≤◌, List, [], ◌∷◌, length, Some, slice_get, slice_set, refl, ap, sym, arith, slice_index_or, replicate}
 use Rattle.std.proofs.lemmas.Bool.{eq-eqb, ne_eqb}
-use Rattle.rl_defs.specs.State.{row}
+use Rattle.rl_defs.specs.Rows.{row}
 use Rattle.rl_defs.proofs.Places.{get_set_same, get_set_other}
 use Rattle.machine_laws.specs.Ledger.{at}
 

@@ -1,14 +1,16 @@
 -- What clients' scripts make sure of in a state in which everything fits: their calls, what they get, make, drop, show and end.
 use Rattle.std.proofs.Common.{◌≡◌, ℕ, true, [], ap, sym, subst, arith}
-use Rattle.rl_defs.specs.declared.frame.Answer.TheVariants as answer
-use Rattle.rl_defs.specs.declared.load.Load.{Load}
+use Rattle.machine_defs.specs.declared.frame.Answer.TheVariants as answer
+use Rattle.rl_defs.specs.declared.load.LoadRows.{LoadRows}
 use Rattle.rl_defs.specs.declared.load.Command.TheVariants as command
 use Rattle.rl_defs.specs.CodeNames.{results_of}
-use Rattle.rl_defs.specs.CodeFits.{are_values}
-use Rattle.rl_defs.specs.State.{State}
-use Rattle.rl_defs.specs.Loans.{count}
-use Rattle.rl_defs.specs.Machine.NativeFits.{types_of, is_target}
-use Rattle.rl_defs.specs.Machine.CallRows.{Kills}
+use Rattle.machine_defs.specs.CodeFits.{are_values}
+use Rattle.machine_defs.specs.State.{State}
+use Rattle.machine_defs.specs.Loans.{count}
+use Rattle.machine_defs.specs.Seen.{types_of}
+use Rattle.rl_defs.specs.Rows.{is_target}
+use Rattle.machine_defs.specs.CallRows.{Kills}
+use Rattle.rl_defs.proofs.ValidFacts.{command_fits}
 use Rattle.machine_laws.specs.LedgerOf.{ledger_of}
 use Rattle.machine_laws.specs.LedgerSound.{Owned}
 use Rattle.machine_laws.specs.Shape.{Laid}
@@ -23,12 +25,12 @@ use Rattle.machine_laws.proofs.NamesHeld.{makes_held, drops_held, shows_held, sh
 use Rattle.machine_laws.proofs.ClientCalls.{clients_call}
 use Rattle.machine_laws.proofs.ClientAnswers.{back_held, failed_held}
 
-module _ (L : Load) (s : State) (plans : Plans L) (laid : Laid L s) (fits : Fitting L s) (at : (t : ℕ) → AtCall L s t) where
+module _ (L : LoadRows) (s : State) (plans : Plans L) (laid : Laid L s) (fits : Fitting L s) (at : (t : ℕ) → AtCall L s t) where
   -- what a client gets for its call is in the names of the command that it stands at
   pub client_gets : ClientGets L s
   client_gets t f (answer.Back values) method thread alone called reply suits of =
       let calls = (at t).calls f [] thread alone of in
-      let unused : Unused calls.1 thread.names = command_unused L t plans.scripts s thread (fits.names t thread of) (command.Call f.target f.method calls.0 calls.1) calls.2 in
+      let unused : Unused calls.1 thread.names = command_unused L t plans s thread (fits.names t thread of) (command.Call f.target f.method calls.0 calls.1) calls.2 in
       back_held L t plans thread f.target f.method calls unused (types_of L s) values (subst (λ m. are_values (types_of L s) (results_of m) values ≡ true) (sym called) suits)
   client_gets t f (answer.Failed why) method thread alone called reply suits of = λ o. (let e = ap (count o) (failed_held L t thread why) in omega (arith, e))
   client_gets t f (answer.Made o) method thread alone called reply suits of = absurd reply
@@ -38,14 +40,14 @@ module _ (L : Load) (s : State) (plans : Plans L) (laid : Laid L s) (fits : Fitt
   pub kills_target : (t i : ℕ) (z : State) → (k : Kills L s t i z) → is_target L k.target ≡ true
   kills_target t i z k =
       let c = commanding L s t k.thread (command.Kill k.target) k.of k.wants in
-      plans.scripts.fits t k.thread.place (command.Kill k.target) c.here
+      command_fits L plans t k.thread.place (command.Kill k.target) c.here
 
   pub client_facts : Owned L (ledger_of L s) → ClientFacts L s
   client_facts owned = record {
-    calls = clients_call L s plans.scripts laid owned fits;
+    calls = clients_call L s plans laid owned fits;
     gets = client_gets;
-    makes = λ t w o ty values z number m. makes_held L s z t plans.scripts fits o ty values m;
-    drops = λ t o z d. drops_held L s z t plans.scripts fits o d;
-    shows = λ t o values z d. (shows_held L s z t plans.scripts fits o values d, shows_hung L s z t plans.scripts fits o values d laid);
+    makes = λ t w o ty values z number m. makes_held L s z t plans fits o ty values m;
+    drops = λ t o z d. drops_held L s z t plans fits o d;
+    shows = λ t o values z d. (shows_held L s z t plans fits o values d, shows_hung L s z t plans fits o values d laid);
     kills = kills_target;
   }

@@ -2,13 +2,14 @@
 use Rattle.std.proofs.Common.{◌≡◌, ◌≢◌, ℕ, ◌==◌, true, false, cond, if◌then◌else◌, not, List, [], ◌∷◌, Option, Some, None, refl, ap, sym, subst, ◌∙◌, arith, inl, inr}
 use mathlib.Core.Path.{fun_ext}
 use Rattle.std.proofs.lemmas.Bool.{cases_eq, cases_Bool, eq-eqb, ne_eqb}
-use Rattle.rl_defs.specs.declared.values.Owner.{Owner}
-use Rattle.rl_defs.specs.declared.load.Load.{Load}
-use Rattle.rl_defs.specs.State.{State, Object, Placement, Root}
-use Rattle.rl_defs.specs.Loans.{object_of}
-use Rattle.rl_defs.specs.Crossing.{has, owned_by}
-use Rattle.rl_defs.specs.Machine.Objects.{fresh_object, with_new, without, with_cells, change_object, with_cells_of, with_placement, placed}
-use Rattle.rl_defs.specs.Machine.CallRows.{passed_to}
+use Rattle.machine_defs.specs.declared.values.Owner.{Owner}
+use Rattle.rl_defs.specs.declared.load.LoadRows.{LoadRows}
+use Rattle.machine_defs.specs.State.{State, Object, Placement, Root}
+use Rattle.machine_defs.specs.Loans.{object_of}
+use Rattle.machine_defs.specs.Arguments.{has}
+use Rattle.machine_defs.specs.Objects.{owned_by}
+use Rattle.machine_defs.specs.Objects.{fresh_object, with_new, without, with_cells, change_object, with_cells_of, with_placement, placed}
+use Rattle.machine_defs.specs.CallRows.{passed_to}
 use Rattle.machine_laws.specs.Ledger.{at}
 use Rattle.machine_laws.specs.LedgerOf.{seat_of}
 use Rattle.machine_laws.specs.LedgerRows.{give, remove}
@@ -23,7 +24,7 @@ seats s o = seat_of (object_of s o)
 abbrev pub IsIn : State → ℕ → Type 0
 IsIn s o = (x : Object) × (object_of s o ≡ Some x)
 
-pub seats_new : (L : Load) (s : State) (ty : ℕ) (w : Owner) (values : List ℕ) → Laid L s → seats (with_new L ty w values s) ≡ at s.next_object (Some (Root w)) (seats s)
+pub seats_new : (L : LoadRows) (s : State) (ty : ℕ) (w : Owner) (values : List ℕ) → Laid L s → seats (with_new L ty w values s) ≡ at s.next_object (Some (Root w)) (seats s)
 seats_new L s ty w values laid = fun_ext (λ o. each o)
   where
     fresh : found s.next_object s.objects ≡ None
@@ -45,7 +46,7 @@ seats_new L s ty w values laid = fun_ext (λ o. each o)
         plain None = refl
         plain (Some x) = refl
 
-pub seats_without : (L : Load) (s : State) (os : List ℕ) → Laid L s → seats (without os s) ≡ remove os (seats s)
+pub seats_without : (L : LoadRows) (s : State) (os : List ℕ) → Laid L s → seats (without os s) ≡ remove os (seats s)
 seats_without L s os laid = fun_ext (λ o. each o)
   where
     each : (o : ℕ) → seats (without os s) o ≡ remove os (seats s) o

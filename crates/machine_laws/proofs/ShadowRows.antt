@@ -1,42 +1,43 @@
--- Shadows stand at the start and behind each row.
+-- Shadows stand at the start and after each row.
 use Rattle.std.proofs.Common.{◌≡◌, ◌≢◌, ℕ, zero, suc, ◌+◌, ◌-◌, ◌<◌, ◌≤◌, ◌==◌, cond, List, [], ◌∷◌, ◌++◌, length, map, Some, None, slice_get, slice_set, refl, ap, sym, subst, ◌∙◌, arith, inl, inr}
 use Rattle.std.proofs.lemmas.Bool.{cases_eq, eq-eqb, ne_eqb}
 use Rattle.std.proofs.lemmas.Option.{slice_get_past}
-use Rattle.rl_defs.specs.declared.entry.Entry.{Entry}
-use Rattle.rl_defs.specs.declared.entry.Entry.TheVariants as entry
-use Rattle.rl_defs.specs.declared.load.Load.{Load}
+use Rattle.machine_defs.specs.declared.entry.Entry.{Entry}
+use Rattle.machine_defs.specs.declared.entry.Entry.TheVariants as entry
+use Rattle.rl_defs.specs.declared.load.LoadRows.{LoadRows}
 use Rattle.rl_defs.specs.declared.load.LoadRow.{LoadRow}
 use Rattle.rl_defs.specs.declared.load.ShadowRow.{ShadowRow}
 use Rattle.rl_defs.specs.Domains.{load_row, load_of_target}
-use Rattle.rl_defs.specs.State.{State, Instance, Shadow, row, first_instance, first_instances, first_shadow, start}
-use Rattle.rl_defs.specs.Loans.{sweep as sweep_state}
-use Rattle.rl_defs.specs.Wanted.{instance_load, load_of_instance}
-use Rattle.rl_defs.specs.Machine.CallRows.{Reloads, instance_for}
-use Rattle.rl_defs.specs.Machine.Steps.{Row}
-use Rattle.rl_defs.specs.Machine.Sound.{ShadowsStand, instances_of}
+use Rattle.machine_defs.specs.State.{State, Instance, Shadow, first_instance, first_instances, first_shadow, start}
+use Rattle.rl_defs.specs.Rows.{row}
+use Rattle.machine_defs.specs.Loans.{sweep as sweep_state}
+use Rattle.machine_defs.specs.State.{instance_load}
+use Rattle.machine_defs.specs.CallRows.{Reloads}
+use Rattle.machine_defs.specs.Steps.{Row}
+use Rattle.machine_defs.specs.Sound.{ShadowsStand, instances_of}
+use Rattle.rl_defs.proofs.ValidFacts.{one_shadow, shadow_loads}
 use Rattle.machine_laws.specs.Shape.{Laid}
 use Rattle.machine_laws.specs.Plans.{Plans}
 use Rattle.machine_laws.proofs.Rows.{row_within, row_set_same, row_set_other, item_there}
 use Rattle.machine_laws.proofs.ReloadRow.{row_append_last, row_append_other}
 use Rattle.machine_laws.proofs.CodeDoing.{load_there}
 use Rattle.machine_laws.proofs.ShadowsKept.{same_row, still_stand}
+use Rattle.machine_laws.proofs.Parts.{load_of_instance, instance_for}
 
 abbrev hit : ℕ → ℕ → ℕ
 hit n k = cond (n == k) 1 0
 
--- how many instances of a load there are behind one more
+-- how many instances of a load there are after one more
 counted_more : (k : ℕ) (xs : List Instance) (y : Instance) → instances_of k (xs ++ y ∷ []) ≡ instances_of k xs + hit y.load k
 counted_more k [] y = omega arith
 counted_more k (x ∷ xs) y = let more = counted_more k xs y in omega (arith, more)
 
 -- the load of a shadow's target is the shadow's
-shadow_load : (L : Load) (x : ℕ) (shadow : ShadowRow) → 0 < x - length L.loads → row L.shadows (x - length L.loads) ≡ Some shadow → load_of_target L x ≡ shadow.load
+shadow_load : (L : LoadRows) (x : ℕ) (shadow : ShadowRow) → 0 < x - length L.loads → row L.shadows (x - length L.loads) ≡ Some shadow → load_of_target L x ≡ shadow.load
 shadow_load L zero shadow some is = absurd (omega (arith, some))
 shadow_load L (suc k) shadow some is =
     let past : slice_get L.loads k ≡ None = slice_get_past L.loads k (omega (arith, some)) in
-    let place : suc k - length L.loads ≡ suc (k - length L.loads) = omega (arith, some) in
-    let here : slice_get L.shadows (k - length L.loads) ≡ Some shadow = rw place at is in
-    rw (past, here) refl
+    rw (past, is) refl
 
 row_there : {A : Type 0} (xs : List A) (n : ℕ) → 0 < n → n ≤ length xs → (y : A) × (row xs n ≡ Some y)
 row_there xs zero pos le = absurd (omega arith)
@@ -46,10 +47,10 @@ slice_row : {A : Type 0} (xs : List A) (k : ℕ) (y : A) → row xs k ≡ Some y
 slice_row xs zero y e = absurd cc
 slice_row xs (suc k) y e = let same : k ≡ suc k - 1 = omega arith in subst (λ n. slice_get xs n ≡ Some y) same e
 
-loads_within : (L : Load) → Plans L → (k : ℕ) (y : ShadowRow) → row L.shadows k ≡ Some y → (0 < y.load) × (y.load ≤ length L.loads)
-loads_within L plans k y is = plans.targets.shadows (k - 1) y (slice_row L.shadows k y is)
+loads_within : (L : LoadRows) → Plans L → (k : ℕ) (y : ShadowRow) → row L.shadows k ≡ Some y → (0 < y.load) × (y.load ≤ length L.loads)
+loads_within L plans k y is = shadow_loads L plans (k - 1) y (slice_row L.shadows k y is)
 
-module _ (L : Load) (s : State) (t x i left : ℕ) (z : State) (plans : Plans L) (laid : Laid L s) (stand : ShadowsStand L s) (r : Reloads L s t x i left z) where
+module _ (L : LoadRows) (s : State) (t x i left : ℕ) (z : State) (plans : Plans L) (laid : Laid L s) (stand : ShadowsStand L s) (r : Reloads L s t x i left z) where
   behind : (0 < x - length L.loads) × (x - length L.loads ≤ length s.shadows)
   behind = row_within s.shadows (x - length L.loads) r.shadow r.of
 
@@ -96,7 +97,7 @@ module _ (L : Load) (s : State) (t x i left : ℕ) (z : State) (plans : Plans L)
   apart : (k : ℕ) (y : ShadowRow) → k ≢ x - length L.loads → row L.shadows k ≡ Some y → load_of_target L x ≢ y.load
   apart k y ne is same =
       let w = row_within L.shadows k y is in
-      let one = plans.shadows.one (x - length L.loads - 1) (k - 1) own.0 y (slice_row L.shadows (x - length L.loads) own.0 own.1) (slice_row L.shadows k y is) (sym load_is ∙ same) in
+      let one = one_shadow L plans (x - length L.loads - 1) (k - 1) own.0 y (slice_row L.shadows (x - length L.loads) own.0 own.1) (slice_row L.shadows k y is) (sym load_is ∙ same) in
       ne (let b = behind.0 in let p = w.0 in omega (arith, one, b, p))
 
   pub reload_stands : ShadowsStand L z
@@ -133,8 +134,8 @@ module _ (L : Load) (s : State) (t x i left : ℕ) (z : State) (plans : Plans L)
                 omega (arith, counted, old, none))
           ]
 
--- Shadows stand behind each row, and behind the sweep, which leaves them.
-pub shadows_stand : (L : Load) (s : State) (e : Entry) (made : State) → Plans L → Laid L s → ShadowsStand L s → Row L s e made → ShadowsStand L (sweep_state made)
+-- Shadows stand after each row, and after the sweep, which leaves them.
+pub shadows_stand : (L : LoadRows) (s : State) (e : Entry) (made : State) → Plans L → Laid L s → ShadowsStand L s → Row L s e made → ShadowsStand L (sweep_state made)
 shadows_stand L s e made plans laid stand r = record { current = (behind e r).current; left = (behind e r).left }
   where
     behind : (e : Entry) → Row L s e made → ShadowsStand L made
@@ -143,19 +144,19 @@ shadows_stand L s e made plans laid stand r = record { current = (behind e r).cu
     behind other r' = still_stand L s made (same_row L s other made (λ n. n) r') stand
 
 -- the first instances are one of each load
-first_load : (L : Load) (k : ℕ) (ls : List LoadRow) (n : ℕ) → n < length ls → load_of_instance (slice_get (first_instances L k ls) n) ≡ k + n
+first_load : (L : LoadRows) (k : ℕ) (ls : List LoadRow) (n : ℕ) → n < length ls → load_of_instance (slice_get (first_instances L k ls) n) ≡ k + n
 first_load L k [] n lt = absurd (omega (arith, lt))
 first_load L k (l ∷ ls) zero lt = omega arith
 first_load L k (l ∷ ls) (suc n) lt = first_load L (k + 1) ls n (omega (arith, lt)) ∙ omega arith
 
-none_before : (L : Load) (k n : ℕ) (ls : List LoadRow) → n < k → instances_of n (first_instances L k ls) ≡ 0
+none_before : (L : LoadRows) (k n : ℕ) (ls : List LoadRow) → n < k → instances_of n (first_instances L k ls) ≡ 0
 none_before L k n [] lt = refl
 none_before L k n (l ∷ ls) lt =
     let rest = none_before L (k + 1) n ls (omega (arith, lt)) in
     let other : hit k n ≡ 0 = rw (ne_eqb k n (λ e. omega (arith, e, lt))) refl in
     omega (arith, rest, other)
 
-first_count : (L : Load) (k n : ℕ) (ls : List LoadRow) → k ≤ n → n < k + length ls → instances_of n (first_instances L k ls) ≡ 1
+first_count : (L : LoadRows) (k n : ℕ) (ls : List LoadRow) → k ≤ n → n < k + length ls → instances_of n (first_instances L k ls) ≡ 1
 first_count L k n [] le lt = absurd (omega (arith, le, lt))
 first_count L k n (l ∷ ls) le lt = elim (cases_eq k n) [
   | inl e ↦
@@ -174,7 +175,7 @@ first_shadows (y ∷ ys) zero x shadow a b = cc
 first_shadows (y ∷ ys) (suc k) x shadow a b = first_shadows ys k x shadow a b
 
 -- at the start a shadow stands for the first instance of its load
-pub shadows_start : (L : Load) → Plans L → ShadowsStand L (start L)
+pub shadows_start : (L : LoadRows) → Plans L → ShadowsStand L (start L)
 shadows_start L plans = record { current = current'; left = left' }
   where
     is_first : (k : ℕ) (shadow : Shadow) (x : ShadowRow) → row (start L).shadows k ≡ Some shadow → row L.shadows k ≡ Some x → shadow ≡ first_shadow x

@@ -1,20 +1,22 @@
--- Shadows stand behind every row: a reload spends one restart for one more instance, and no other row changes shadows or the loads of instances.
+-- Shadows stand after every row: a reload spends one restart for one more instance, and no other row changes shadows or the loads of instances.
 use Rattle.std.proofs.Common.{◌≡◌, ℕ, zero, suc, ◌+◌, ◌-◌, ◌==◌, Bool, true, false, cond, List, [], ◌∷◌, map, Option, Some, None, slice_get, slice_set, refl, ap, ap₂, sym, subst, ◌∙◌, arith, inl, inr}
-use Rattle.rl_defs.specs.declared.entry.Entry.{Entry}
-use Rattle.rl_defs.specs.declared.entry.Entry.TheVariants as entry
-use Rattle.rl_defs.specs.declared.frame.Action.{Action}
-use Rattle.rl_defs.specs.declared.frame.Answer.{Answer}
-use Rattle.rl_defs.specs.declared.load.Load.{Load}
-use Rattle.rl_defs.specs.State.{State, StackFrame, Instance, row, is_live, stack}
-use Rattle.rl_defs.specs.Wanted.{top, load_of_instance}
-use Rattle.rl_defs.specs.Crossing.{Wish}
-use Rattle.rl_defs.specs.Machine.Seen.{with_instance}
-use Rattle.rl_defs.specs.Machine.Frames.{Replies, AnswersTop, AnswersFrame}
-use Rattle.rl_defs.specs.Machine.Calling.{wish}
-use Rattle.rl_defs.specs.Machine.ObjectRows.{Does}
-use Rattle.rl_defs.specs.Machine.Steps.{Row}
-use Rattle.rl_defs.specs.Machine.Sound.{ShadowsStand, instances_of}
+use Rattle.machine_defs.specs.declared.entry.Entry.{Entry}
+use Rattle.machine_defs.specs.declared.entry.Entry.TheVariants as entry
+use Rattle.machine_defs.specs.declared.frame.Action.{Action}
+use Rattle.machine_defs.specs.declared.frame.Answer.{Answer}
+use Rattle.rl_defs.specs.declared.load.LoadRows.{LoadRows}
+use Rattle.machine_defs.specs.State.{State, StackFrame, Instance, is_live, stack}
+use Rattle.rl_defs.specs.Rows.{row}
+use Rattle.machine_defs.specs.State.{top}
+use Rattle.machine_defs.specs.Calling.{Wish}
+use Rattle.machine_defs.specs.Seen.{with_instance}
+use Rattle.machine_defs.specs.Frames.{Replies, AnswersTop, AnswersFrame}
+use Rattle.machine_defs.specs.Calling.{wish}
+use Rattle.machine_defs.specs.ObjectRows.{Does}
+use Rattle.machine_defs.specs.Steps.{Row}
+use Rattle.machine_defs.specs.Sound.{ShadowsStand, instances_of}
 use Rattle.machine_laws.proofs.Wishes.{wish_as}
+use Rattle.machine_laws.proofs.Parts.{load_of_instance}
 
 -- the loads of instances, in order
 abbrev pub loads_in : State → List ℕ
@@ -48,7 +50,7 @@ changed s i change same = go (row s.instances i) refl
         at zero e' = absurd cc
         at (suc i) e' = let same' : i ≡ suc i - 1 = omega arith in subst (λ k. slice_get s.instances k ≡ Some x) same' e'
 
-reply_same : (L : Load) (s z : State) (t : ℕ) (a : Answer) → Replies L s t a z → SameShadows s z
+reply_same : (L : LoadRows) (s z : State) (t : ℕ) (a : Answer) → Replies L s t a z → SameShadows s z
 reply_same L s z t a replies = by_top (top (stack s t)) replies
   where
     by_life : (f : StackFrame) (lives : Bool) → AnswersFrame L s t f a lives z → SameShadows s z
@@ -59,21 +61,21 @@ reply_same L s z t a replies = by_top (top (stack s t)) replies
     by_top None r = alike s z (ap (λ (y : State). y.shadows) r.becomes) (ap (λ (y : State). y.instances) r.becomes)
     by_top (Some f) r = by_life f (is_live s f.instance) r
 
-wish_same : (L : Load) (s : State) (t : ℕ) (w : Wish) → wish L s t ≡ Some w → SameShadows s w.charged
+wish_same : (L : LoadRows) (s : State) (t : ℕ) (w : Wish) → wish L s t ≡ Some w → SameShadows s w.charged
 wish_same L s t w wants = elim (wish_as L s t w wants) [
   | inl c ↦ alike s w.charged (ap (λ (v : Wish). v.charged.shadows) c.is) (ap (λ (v : Wish). v.charged.instances) c.is)
   | inr f ↦ alike s w.charged (ap (λ (v : Wish). v.charged.shadows) f.is) (ap (λ (v : Wish). v.charged.instances) f.is)
 ]
 
 -- a frame's action that changes an instance
-does_same : (L : Load) (s z : State) (t i : ℕ) (act : Action) (a : Answer) (j : ℕ) (change : Instance → Instance) → ((x : Instance) → (change x).load ≡ x.load) → Does L s t i act a (with_instance j change) z → SameShadows s z
+does_same : (L : LoadRows) (s z : State) (t i : ℕ) (act : Action) (a : Answer) (j : ℕ) (change : Instance → Instance) → ((x : Instance) → (change x).load ≡ x.load) → Does L s t i act a (with_instance j change) z → SameShadows s z
 does_same L s z t i act a j change same d = subst (SameShadows s) (sym d.becomes) (then s _ _ (alike s _ refl refl) (changed _ j change same))
 
 abbrev pub IsReload : Entry → Type 0
 IsReload (entry.Reload t x i left) = Unit {0}
 IsReload _ = ⊥
 
-pub same_row : (L : Load) (s : State) (e : Entry) (z : State) → (IsReload e → ⊥) → Row L s e z → SameShadows s z
+pub same_row : (L : LoadRows) (s : State) (e : Entry) (z : State) → (IsReload e → ⊥) → Row L s e z → SameShadows s z
 same_row L s (entry.Call t c x i m args) z other r = then s r.charged z (wish_same L s t _ r.wants) (alike r.charged z (ap (λ (y : State). y.shadows) r.becomes) (ap (λ (y : State). y.instances) r.becomes))
 same_row L s (entry.Refuse t c why x m args) z other r = then s r.charged z (wish_same L s t _ r.wants) (then r.charged _ z (alike r.charged _ refl refl) (reply_same L _ z t _ r.replies))
 same_row L s (entry.Ret t c results) z other r = then s _ z (alike s _ refl refl) (reply_same L _ z t _ r.replies)
@@ -121,7 +123,7 @@ loads_by (x ∷ xs) (y ∷ ys) e zero = refl
 loads_by (x ∷ xs) (y ∷ ys) e (suc zero) = cc
 loads_by (x ∷ xs) (y ∷ ys) e (suc (suc i)) = let rest : map (λ i. i.load) xs ≡ map (λ i. i.load) ys = cc in loads_by xs ys rest (suc i)
 
-pub still_stand : (L : Load) (s z : State) → SameShadows s z → ShadowsStand L s → ShadowsStand L z
+pub still_stand : (L : LoadRows) (s z : State) → SameShadows s z → ShadowsStand L s → ShadowsStand L z
 still_stand L s z same stand = record {
   current = λ k shadow x here there. loads_by z.instances s.instances same.loads shadow.current ∙ stand.current k shadow x (sym (ap (λ xs. row xs k) same.shadows) ∙ here) there;
   left = λ k shadow x here there. ap (λ n. shadow.left + n) (counts_by x.load z.instances s.instances same.loads) ∙ stand.left k shadow x (sym (ap (λ xs. row xs k) same.shadows) ∙ here) there;

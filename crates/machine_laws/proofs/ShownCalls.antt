@@ -2,19 +2,21 @@
 use Rattle.std.proofs.Common.{◌≡◌, ℕ, zero, suc, ◌+◌, ◌-◌, ◌<◌, ◌≤◌, true, false, List, [], ◌∷◌, ◌++◌, Option, Some, None, refl, ap, sym, ◌∙◌, subst, arith, inl, inr, slice_get, length, nat_le}
 use Rattle.std.proofs.lemmas.Bool.{cases_eq, and_from, le-leb}
 use Rattle.std.proofs.lemmas.Option.{slice_get_within}
-use Rattle.rl_defs.specs.declared.values.Owner.TheVariants as owner
-use Rattle.rl_defs.specs.declared.values.RpcCode.{RpcCode}
-use Rattle.rl_defs.specs.declared.values.RpcCode.TheVariants as code
-use Rattle.rl_defs.specs.declared.entry.Entry.{Entry}
-use Rattle.rl_defs.specs.declared.entry.Entry.TheVariants as entry
-use Rattle.rl_defs.specs.declared.load.Load.{Load}
+use Rattle.machine_defs.specs.declared.values.Owner.TheVariants as owner
+use Rattle.machine_defs.specs.declared.values.RpcCode.{RpcCode}
+use Rattle.machine_defs.specs.declared.values.RpcCode.TheVariants as code
+use Rattle.machine_defs.specs.declared.entry.Entry.{Entry}
+use Rattle.machine_defs.specs.declared.entry.Entry.TheVariants as entry
+use Rattle.rl_defs.specs.declared.load.LoadRows.{LoadRows}
 use Rattle.rl_defs.specs.declared.load.ShadowRow.{ShadowRow}
 use Rattle.rl_defs.specs.Domains.{load_of_target, is_serial}
-use Rattle.rl_defs.specs.State.{row, lives}
-use Rattle.rl_defs.specs.Machine.NativeFits.{is_target}
-use Rattle.rl_defs.specs.Machine.Steps.{Turn}
-use Rattle.rl_defs.specs.Machine.History.{OpenCall, has_ended, current_at, restarts_in, restarts_of}
-use Rattle.rl_defs.specs.Machine.Answered.{ClosesNewest, IsGoneForGood, BreaksOrder, Refused, IsUnwound, IsRepeated, AnsweredEntry}
+use Rattle.rl_defs.specs.Rows.{row}
+use Rattle.machine_defs.specs.State.{lives}
+use Rattle.rl_defs.specs.Rows.{is_target}
+use Rattle.machine_defs.specs.Steps.{Turn}
+use Rattle.machine_defs.specs.History.{OpenCall, ended_at, current_at, restarts_of}
+use Rattle.machine_laws.proofs.Parts.{restarts_in}
+use Rattle.machine_defs.specs.Answered.{ClosesNewest, IsGoneForGood, BreaksOrder, Refused, IsUnwound, IsRepeated, Answered}
 use Rattle.machine_laws.specs.Ledger.{LedgerFrame, Ledger, alive}
 use Rattle.machine_laws.specs.LedgerRows.{Runs, IsDead, IsOutranked, IsRefused, Row}
 use Rattle.machine_laws.specs.LedgerSound.{Owned, Grounded, Placed, IsPlan}
@@ -27,7 +29,7 @@ length_calls f [] = refl
 length_calls f (g ∷ fs) = ap suc (length_calls g fs)
 
 -- a target with restarts has a load
-pub restarted_target : (L : Load) (x : ℕ) → 0 < restarts_of L x → is_target L x ≡ true
+pub restarted_target : (L : LoadRows) (x : ℕ) → 0 < restarts_of L x → is_target L x ≡ true
 restarted_target L x some = go (x - length L.loads) refl
   where
     within : (n : ℕ) (shadow : Option ShadowRow) → x - length L.loads ≡ suc n → slice_get L.shadows n ≡ shadow → 0 < restarts_in shadow → is_target L x ≡ true
@@ -40,11 +42,11 @@ restarted_target L x some = go (x - length L.loads) refl
     go (suc n) e = within n (slice_get L.shadows n) e refl (rw e at some)
 
 -- so a target that has a restart left has a load
-pub loaded : (L : Load) (us : List Turn) (s : Ledger) → IsPlan L → CallsAgree L us s → (x n : ℕ) → s.left x ≡ suc n → 0 < load_of_target L x
+pub loaded : (L : LoadRows) (us : List Turn) (s : Ledger) → IsPlan L → CallsAgree L us s → (x n : ℕ) → s.left x ≡ suc n → 0 < load_of_target L x
 loaded L us s plan c x n is = plan.some_load x (restarted_target L x (let a = c.reloads x in omega arith))
 
 -- the open calls below and above that of a frame which isn't the client's own
-pub record Parted (L : Load) (loads : ℕ → ℕ) (next_instance : ℕ) (calls : List OpenCall) (f : LedgerFrame) (i : ℕ) : Type 0 where
+pub record Parted (L : LoadRows) (loads : ℕ → ℕ) (next_instance : ℕ) (calls : List OpenCall) (f : LedgerFrame) (i : ℕ) : Type 0 where
   pub before : List OpenCall
   pub others : List OpenCall
   pub parts : calls ≡ before ++ call_of f ∷ others
@@ -52,7 +54,7 @@ pub record Parted (L : Load) (loads : ℕ → ℕ) (next_instance : ℕ) (calls 
   pub opened : i < next_instance
   pub load : loads i ≡ load_of_target L f.target
 
-pub parted : (L : Load) (loads : ℕ → ℕ) (ni nc t i : ℕ) (f : LedgerFrame) (over under : List LedgerFrame) → Grounded L loads ni nc t (over ++ f ∷ under) → f.party ≡ owner.Instance i → Parted L loads ni (calls_of (over ++ f ∷ under)) f i
+pub parted : (L : LoadRows) (loads : ℕ → ℕ) (ni nc t i : ℕ) (f : LedgerFrame) (over under : List LedgerFrame) → Grounded L loads ni nc t (over ++ f ∷ under) → f.party ≡ owner.Instance i → Parted L loads ni (calls_of (over ++ f ∷ under)) f i
 parted L loads ni nc t i f [] [] g is = absurd (let e = g.0 in cc (e, is))
 parted L loads ni nc t i f [] (h ∷ under) g is =
     let e : g.0.0 ≡ i = cc (g.0.1, is) in
@@ -64,11 +66,11 @@ parted L loads ni nc t i f (a ∷ b ∷ over) under g is =
     let r = parted L loads ni nc t i f (b ∷ over) under g.4 is in
     record { before = call_of a ∷ r.before; others = r.others; parts = ap (λ cs. call_of a ∷ cs) r.parts; some = r.some; opened = r.opened; load = r.load }
 
-module _ (L : Load) (us : List Turn) (s : Ledger) (own : Owned L s) (c : CallsAgree L us s) (p : Placed L s) (h : HeapAgrees us s) where
-  ended_live : (i : ℕ) → 0 < i → i < s.next_instance → s.live i ≡ true → has_ended us i ≡ false
+module _ (L : LoadRows) (us : List Turn) (s : Ledger) (own : Owned L s) (c : CallsAgree L us s) (p : Placed L s) (h : HeapAgrees us s) where
+  ended_live : (i : ℕ) → 0 < i → i < s.next_instance → s.live i ≡ true → ended_at us i ≡ false
   ended_live i pos lt lives = rw (c.ends i pos lt, lives) refl
 
-  ended_dead : (i : ℕ) → 0 < i → i < s.next_instance → s.live i ≡ false → has_ended us i ≡ true
+  ended_dead : (i : ℕ) → 0 < i → i < s.next_instance → s.live i ≡ false → ended_at us i ≡ true
   ended_dead i pos lt dead = rw (c.ends i pos lt, dead) refl
 
   -- the instance that a target with a load stands for
@@ -78,10 +80,10 @@ module _ (L : Load) (us : List Turn) (s : Ledger) (own : Owned L s) (c : CallsAg
     | inr more ↦ omega arith
   ]
 
-  current_dead : (x : ℕ) → 0 < load_of_target L x → s.live (s.current x) ≡ false → has_ended us (current_at L us x) ≡ true
+  current_dead : (x : ℕ) → 0 < load_of_target L x → s.live (s.current x) ≡ false → ended_at us (current_at L us x) ≡ true
   current_dead x some dead = rw (c.currents x) (ended_dead (s.current x) (current_some x some) (p.current_of x).0 dead)
 
-  current_live : (x i : ℕ) → i ≡ s.current x → s.live i ≡ true → has_ended us i ≡ false
+  current_live : (x i : ℕ) → i ≡ s.current x → s.live i ≡ true → ended_at us i ≡ false
   current_live x i is lives = ended_live i (live_some L s own p i lives) (let a = (p.current_of x).0 in omega arith) lives
 
   gone_for_good : (x : ℕ) → 0 < load_of_target L x → s.live (s.current x) ≡ false → s.left x ≡ 0 → IsGoneForGood L us x
@@ -91,13 +93,13 @@ module _ (L : Load) (us : List Turn) (s : Ledger) (own : Owned L s) (c : CallsAg
   newest : (t n : ℕ) (f g : LedgerFrame) (fs : List LedgerFrame) (Holds : OpenCall → Type 0) → 0 < t → t ≤ length L.clients → s.stack t ≡ f ∷ g ∷ fs → n ≡ f.call → Holds (call_of f) → ClosesNewest us t n Holds
   newest t n f g fs Holds pos le is number holds = (call_of f, calls_of (g ∷ fs), c.opens t pos le ∙ ap calls_of is, sym number, holds)
 
-  party_live : (t : ℕ) (f g : LedgerFrame) (fs : List LedgerFrame) → Runs L s t f (g ∷ fs) → has_ended us (inside_of f.party) ≡ false
+  party_live : (t : ℕ) (f g : LedgerFrame) (fs : List LedgerFrame) → Runs L s t f (g ∷ fs) → ended_at us (inside_of f.party) ≡ false
   party_live t f g fs runs =
       let gr = ground L s p t f (g ∷ fs) runs.some runs.within runs.stack in
       let e = gr.0.1 in
       rw e (ended_live gr.0.0 gr.0.2 gr.0.3 (let l : alive s.live (owner.Instance gr.0.0) ≡ true = rw e at runs.lives in l))
 
-  party_dead : (t : ℕ) (f g : LedgerFrame) (fs : List LedgerFrame) → IsDead L s t f (g ∷ fs) → has_ended us (inside_of f.party) ≡ true
+  party_dead : (t : ℕ) (f g : LedgerFrame) (fs : List LedgerFrame) → IsDead L s t f (g ∷ fs) → ended_at us (inside_of f.party) ≡ true
   party_dead t f g fs dead =
       let gr = ground L s p t f (g ∷ fs) dead.some dead.within dead.stack in
       let e = gr.0.1 in
@@ -111,14 +113,14 @@ module _ (L : Load) (us : List Turn) (s : Ledger) (own : Owned L s) (c : CallsAg
       let e = gr.0.4 in
       omega arith
 
-  again_newest : (t n : ℕ) (f : LedgerFrame) (fs : List LedgerFrame) → IsDead L s t f fs → n ≡ f.call → (Holds : OpenCall → Type 0) → (has_ended us (inside_of f.party) ≡ true → Holds (call_of f)) → ClosesNewest us t n Holds
+  again_newest : (t n : ℕ) (f : LedgerFrame) (fs : List LedgerFrame) → IsDead L s t f fs → n ≡ f.call → (Holds : OpenCall → Type 0) → (ended_at us (inside_of f.party) ≡ true → Holds (call_of f)) → ClosesNewest us t n Holds
   again_newest t n f [] dead number Holds holds = absurd (let e = (ground L s p t f [] dead.some dead.within dead.stack).0 in let l : alive s.live (owner.Client t) ≡ false = rw e at dead.dead in cc (l))
   again_newest t n f (g ∷ fs) dead number Holds holds = newest t n f g fs Holds dead.some dead.within dead.stack number (holds (party_dead t f g fs dead))
 
   -- an instance that acts hasn't ended
-  pub actor_live : (t : ℕ) (f : LedgerFrame) (fs : List LedgerFrame) (i : ℕ) → Runs L s t f fs → f.party ≡ owner.Instance i → has_ended us i ≡ false
+  pub actor_live : (t : ℕ) (f : LedgerFrame) (fs : List LedgerFrame) (i : ℕ) → Runs L s t f fs → f.party ≡ owner.Instance i → ended_at us i ≡ false
   actor_live t f [] i runs is = absurd (let e = (ground L s p t f [] runs.some runs.within runs.stack).0 in cc (e, is))
-  actor_live t f (g ∷ fs) i runs is = let r : has_ended us (inside_of (owner.Instance i)) ≡ false = rw is at (party_live t f g fs runs) in r
+  actor_live t f (g ∷ fs) i runs is = let r : ended_at us (inside_of (owner.Instance i)) ≡ false = rw is at (party_live t f g fs runs) in r
 
   breaks_order : (t x : ℕ) (f : LedgerFrame) (fs : List LedgerFrame) → Runs L s t f fs → is_serial L (load_of_target L x) ≡ true → IsOutranked L s (load_of_target L x) (f ∷ fs) → BreaksOrder L us t x
   breaks_order t x f fs runs serial r =
@@ -143,10 +145,10 @@ module _ (L : Load) (us : List Turn) (s : Ledger) (own : Owned L s) (c : CallsAg
   refused t x code.Order f fs plan runs r = breaks_order t x f fs runs r.0 r.1
   refused t x code.Unwound f fs plan runs r = absurd r
 
-  pub answered : IsPlan L → (e : Entry) (z : Ledger) → Row L s e z → AnsweredEntry L us e
+  pub answered : IsPlan L → (e : Entry) (z : Ledger) → Row L s e z → Answered L us e
   answered plan (entry.Call t n x i m args) z r = let row = r.3 in (row.number ∙ sym c.calls, row.into ∙ sym (c.currents x), current_live x i row.into row.lives)
   answered plan (entry.Refuse t n why x m args) z r = (r.4 ∙ sym c.calls, refused t x why r.0 r.1 plan r.3 r.5)
-  answered plan (entry.Ret t n results) z r = newest t n r.0 r.1 r.2 (λ o. has_ended us o.inside ≡ false) r.4.some r.4.within r.4.stack r.5 (party_live t r.0 r.1 r.2 r.4)
+  answered plan (entry.Ret t n results) z r = newest t n r.0 r.1 r.2 (λ o. ended_at us o.inside ≡ false) r.4.some r.4.within r.4.stack r.5 (party_live t r.0 r.1 r.2 r.4)
   answered plan (entry.Unwound t n) z r = newest t n r.0 r.1 r.2 (IsUnwound L us) r.4.some r.4.within r.4.stack r.5 (record {
     ended = party_dead t r.0 r.1 r.2 r.4;
     over = λ may. (

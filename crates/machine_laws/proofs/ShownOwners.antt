@@ -1,20 +1,21 @@
 -- What each row says of the objects that its entry names, in the words of the history before it.
-use Rattle.std.proofs.Common.{◌≡◌, ℕ, zero, suc, ◌<◌, ◌≤◌, ◌==◌, true, false, ◌⊎◌, List, [], ◌∷◌, ◌++◌, Option, Some, None, refl, ap, sym, ◌∙◌, subst, arith, inl, inr, slice_get, length}
+use Rattle.std.proofs.Common.{◌≡◌, ℕ, unwrap_or, zero, suc, ◌<◌, ◌≤◌, ◌==◌, true, false, ◌⊎◌, List, [], ◌∷◌, ◌++◌, Option, Some, None, refl, ap, sym, ◌∙◌, subst, arith, inl, inr, slice_get, length}
 use Rattle.std.proofs.lemmas.Bool.{cases_eq, cases_Bool, eqb-true, eq-eqb}
 use Rattle.std.proofs.Math.Bool.{or-true}
 use Rattle.rl_defs.specs.declared.values.Value.{Value}
-use Rattle.rl_defs.specs.declared.values.Arg.{Arg}
-use Rattle.rl_defs.specs.declared.values.Owner.{Owner}
-use Rattle.rl_defs.specs.declared.values.Owner.TheVariants as owner
-use Rattle.rl_defs.specs.declared.entry.Entry.{Entry}
-use Rattle.rl_defs.specs.declared.entry.Entry.TheVariants as entry
-use Rattle.rl_defs.specs.declared.load.Load.{Load}
-use Rattle.rl_defs.specs.State.{Placement, Root, Hung}
-use Rattle.rl_defs.specs.Loans.{count}
-use Rattle.rl_defs.specs.Crossing.{has, moved_of, lent_of}
-use Rattle.rl_defs.specs.Machine.Steps.{Turn}
-use Rattle.rl_defs.specs.Machine.History.{objects_in, receiver, in_cell, root_above, owner_at, is_gone}
-use Rattle.rl_defs.specs.Machine.OwnedOnce.{IsThere, Owns, IsLentTo, MayLend, Each, OwnedEntry, named, dropped}
+use Rattle.machine_defs.specs.declared.values.Arg.{Arg}
+use Rattle.machine_defs.specs.declared.values.Owner.{Owner}
+use Rattle.machine_defs.specs.declared.values.Owner.TheVariants as owner
+use Rattle.machine_defs.specs.declared.entry.Entry.{Entry}
+use Rattle.machine_defs.specs.declared.entry.Entry.TheVariants as entry
+use Rattle.rl_defs.specs.declared.load.LoadRows.{LoadRows}
+use Rattle.machine_defs.specs.State.{Placement, Root, Hung}
+use Rattle.machine_defs.specs.Loans.{count}
+use Rattle.machine_defs.specs.Arguments.{has, moved_of, lent_of}
+use Rattle.machine_defs.specs.Steps.{Turn}
+use Rattle.machine_defs.specs.Arguments.{objects_in}
+use Rattle.machine_defs.specs.History.{receiver_at, cell_at, dropped, owner_at, gone_at}
+use Rattle.machine_defs.specs.OwnedOnce.{IsThere, Owns, IsLentTo, MayLend, Each, OwnedEntry, named}
 use Rattle.machine_laws.specs.Ledger.{LedgerFrame, Ledger, alive, lent_in, loans}
 use Rattle.machine_laws.specs.LedgerRows.{Runs, Exchanged, MayPass, Row}
 use Rattle.machine_laws.specs.LedgerSound.{in_slots, own_in, Owned, Placed}
@@ -54,20 +55,20 @@ in_slot o (Some q ∷ ks) zero is = let e : q ≡ o = cc in rw (eq-eqb q o e) (o
 in_slot o (None ∷ ks) (suc k) is = in_slot o ks k is
 in_slot o (Some q ∷ ks) (suc k) is = let r = in_slot o ks k is in omega arith
 
-module _ (L : Load) (us : List Turn) (s : Ledger) (own : Owned L s) (c : CallsAgree L us s) (p : Placed L s) (h : HeapAgrees us s) (cells : CellsAgree us s) where
+module _ (L : LoadRows) (us : List Turn) (s : Ledger) (own : Owned L s) (c : CallsAgree L us s) (p : Placed L s) (h : HeapAgrees us s) (cells : CellsAgree us s) where
   -- what is in the heap was made and isn't gone
   pub there : (o : ℕ) (x : Placement) → s.seat o ≡ Some x → IsThere us o
   there o x is =
       let made = made_before L s own p o x is in
       record { some = made.0; made = (let a = made.1 in let b = h.made in omega arith); stays = stays x is }
     where
-      stays : (x : Placement) → s.seat o ≡ Some x → is_gone us o ≡ false
+      stays : (x : Placement) → s.seat o ≡ Some x → gone_at us o ≡ false
       stays (Root w) is = (h.root o w is).2
       stays (Hung q k) is = (h.hung o q k is).1
 
   -- a root has the owner that last received it
   owner_same : (o : ℕ) (w : Owner) → s.seat o ≡ Some (Root w) → owner_at us o ≡ w
-  owner_same o w is = let r = h.root o w is in ap (λ x. receiver us (root_above o x)) r.1 ∙ r.0
+  owner_same o w is = let r = h.root o w is in ap (λ x. receiver_at us (unwrap_or x o)) r.1 ∙ r.0
 
   owns_root : (t : ℕ) (f : LedgerFrame) (fs : List LedgerFrame) → Runs L s t f fs → (o : ℕ) → s.seat o ≡ Some (Root f.party) → loans L s o ≡ 0 → Owns L us t o
   owns_root t f fs runs o is none = record {
@@ -87,12 +88,7 @@ module _ (L : Load) (us : List Turn) (s : Ledger) (own : Owned L s) (c : CallsAg
   lent_to t f [] runs o some = absurd (let e = (ground L s p t f [] runs.some runs.within runs.stack).1 in let z : 0 < count o [] = rw e at some in omega arith)
   lent_to t f (g ∷ fs) runs o some =
       let e = (ground L s p t f (g ∷ fs) runs.some runs.within runs.stack).1 in
-      record {
-        call = call_of f;
-        others = calls_of (g ∷ fs);
-        open_now = c.opens t runs.some runs.within ∙ ap calls_of runs.stack;
-        lent = counted_has (lent_of f.args) o (rw e at some);
-      }
+      (call_of f, calls_of (g ∷ fs), c.opens t runs.some runs.within ∙ ap calls_of runs.stack, counted_has (lent_of f.args) o (rw e at some))
 
   lent_root : (t : ℕ) (f : LedgerFrame) (fs : List LedgerFrame) → Runs L s t f fs → (o : ℕ) → 0 < count o f.lent → (w : Owner) × (s.seat o ≡ Some (Root w))
   lent_root t f fs runs o some = own.lent o (lent_loans (length L.clients) s.live s.stack s.seat s.slots s.next_object own t o (rw runs.stack (omega arith)))
@@ -136,10 +132,10 @@ module _ (L : Load) (us : List Turn) (s : Ledger) (own : Owned L s) (c : CallsAg
   returns f results all o is = let some = has_counted (objects_in results) o is in let a = all o in omega arith
 
   -- the cell of an object of one's own in which nothing hangs
-  cell_empty : (o k : ℕ) (w : Owner) → s.seat o ≡ Some (Root w) → ((q : ℕ) → s.seat q ≡ Some (Hung o k) → ⊥) → in_cell us o k ≡ None
-  cell_empty o k w root empty = go (in_cell us o k) refl
+  cell_empty : (o k : ℕ) (w : Owner) → s.seat o ≡ Some (Root w) → ((q : ℕ) → s.seat q ≡ Some (Hung o k) → ⊥) → cell_at us o k ≡ None
+  cell_empty o k w root empty = go (cell_at us o k) refl
     where
-      go : (x : Option ℕ) → in_cell us o k ≡ x → x ≡ None
+      go : (x : Option ℕ) → cell_at us o k ≡ x → x ≡ None
       go None is = refl
       go (Some v) is = absurd (empty v (cells.stays v o k (Root w) root is))
 

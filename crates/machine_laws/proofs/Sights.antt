@@ -6,22 +6,26 @@ use Rattle.std.proofs.lemmas.Option.{slice_get_past, slice_get-get_or}
 use Rattle.rl_defs.specs.declared.tables.Kind.{Kind}
 use Rattle.rl_defs.specs.declared.tables.Kind.TheVariants as kind
 use Rattle.rl_defs.specs.declared.code.RegKind.TheVariants as held
-use Rattle.rl_defs.specs.declared.load.Load.{Load}
+use Rattle.rl_defs.specs.declared.load.LoadRows.{LoadRows}
 use Rattle.rl_defs.specs.CodeNames.{cells_of, imports, trait_number, type_at}
 use Rattle.rl_defs.specs.CodeKinds.{hung_at}
-use Rattle.rl_defs.specs.CodeFits.{FitsSight, is_number_cell}
-use Rattle.rl_defs.specs.State.{State, Instance, Object, Placement, Root, Hung, row, is_live}
-use Rattle.rl_defs.specs.Loans.{object_of}
-use Rattle.rl_defs.specs.Wanted.{instance_load}
-use Rattle.rl_defs.specs.Machine.Objects.{kinds_of, if_number, number_cell, hangs_in, number_of_object, hung_in}
-use Rattle.rl_defs.specs.Machine.Seen.{domain_of_instance, words_in, words, binds, seen}
-use Rattle.rl_defs.specs.Machine.NativeFits.{types_of, struct_or_none}
+use Rattle.machine_defs.specs.CodeFits.{FitsSight, is_number_cell}
+use Rattle.machine_defs.specs.State.{State, Instance, Object, Placement, Root, Hung, is_live}
+use Rattle.rl_defs.specs.Rows.{row}
+use Rattle.machine_defs.specs.Loans.{object_of}
+use Rattle.machine_defs.specs.State.{instance_load}
+use Rattle.machine_defs.specs.Objects.{kinds_of, if_number, number_cell, hangs_in, hung_in}
+use Rattle.machine_defs.specs.Seen.{domain_of_instance, words, seen}
+use Rattle.rl_defs.specs.Rows.{binds}
+use Rattle.machine_defs.specs.Seen.{types_of}
+use Rattle.rl_defs.proofs.ValidFacts.{bind_trait, binds_count, domain_tables, few_words}
 use Rattle.machine_laws.specs.Shape.{Rises, Laid}
 use Rattle.machine_laws.specs.Plans.{Plans}
 use Rattle.machine_laws.specs.Fitting.{Fitting}
 use Rattle.machine_laws.proofs.Objects.{found, found_above}
 use Rattle.machine_laws.proofs.Instances.{live_there}
 use Rattle.machine_laws.proofs.Retyping.{kinds_by_struct}
+use Rattle.machine_laws.proofs.Parts.{number_of_object, words_in, struct_or_none}
 
 -- an object that is found by a test is found by its number
 pub found_self : (n next : ℕ) (test : Object → Bool) (xs : List Object) (x : Object) → Rises n next xs → find test xs ≡ Some x → (found x.number xs ≡ Some x) × (test x ≡ true)
@@ -38,7 +42,7 @@ found_self n next test (y ∷ xs) x rises is = elim (cases_Bool (test y)) [
 ]
 
 -- what hangs in a cell
-pub hung_there : (L : Load) (s : State) (o at v : ℕ) → Laid L s → hung_in s o at ≡ Some v → (x : Object) × (object_of s v ≡ Some x) × (x.placement ≡ Hung o at)
+pub hung_there : (L : LoadRows) (s : State) (o at v : ℕ) → Laid L s → hung_in s o at ≡ Some v → (x : Object) × (object_of s v ≡ Some x) × (x.placement ≡ Hung o at)
 hung_there L s o at v laid is = go (find (λ x. hangs_in o at x.placement) s.objects) refl
   where
     place : (p : Placement) → hangs_in o at p ≡ true → p ≡ Hung o at
@@ -67,13 +71,14 @@ number_there (kind.Lent ty ∷ kinds) (n ∷ cells) zero same = refl
 number_there (kind.Cap t ∷ kinds) (n ∷ cells) zero same = refl
 number_there (k ∷ kinds) (n ∷ cells) (suc at) same = number_there kinds cells at (omega (arith, same))
 
-pub sees : (L : Load) (s : State) (i : ℕ) → Plans L → Laid L s → Fitting L s → is_live s i ≡ true → FitsSight (types_of L s) (domain_of_instance L s i) (seen L s i)
+pub sees : (L : LoadRows) (s : State) (i : ℕ) → Plans L → Laid L s → Fitting L s → is_live s i ≡ true → FitsSight (types_of L s) (domain_of_instance L s i) (seen L s i)
 sees L s i plans laid fits lives = record {
-  cells = λ o at. rw (plans.domains.tables (instance_load s i)) (cell o at (object_of s o) refl);
+  types_same = refl;
+  cells = λ o at. rw (domain_tables L plans (instance_load s i)) (cell o at (object_of s o) refl);
   words = λ at le. slice_get_past (words s i) at (let w = wide in omega (arith, w, le));
-  slots = λ k o is. rw (plans.domains.tables (instance_load s i)) (fits.slots i k o lives is);
-  hung = λ o at v is. rw (plans.domains.tables (instance_load s i)) (hung o at v is);
-  bound = λ k lt. rw (plans.domains.tables (instance_load s i)) (bound k lt);
+  slots = λ k o is. rw (domain_tables L plans (instance_load s i)) (fits.slots i k o lives is);
+  hung = λ o at v is. rw (domain_tables L plans (instance_load s i)) (hung o at v is);
+  bound = λ k lt. rw (domain_tables L plans (instance_load s i)) (bound k lt);
 }
   where
     instance : (x : Instance) × (row s.instances i ≡ Some x)
@@ -83,7 +88,7 @@ sees L s i plans laid fits lives = record {
     wide =
         let x = instance.0 in
         let f = fits.instances i x instance.1 in
-        let few = plans.sizes.words x.load in
+        let few = few_words L plans x.load in
         let here : words s i ≡ x.words = ap words_in instance.1 in
         rw here (let e = f.words in omega (arith, e, few))
 
@@ -102,5 +107,5 @@ sees L s i plans laid fits lives = record {
 
     bound : (k : ℕ) → k < length (imports (domain_of_instance L s i).lines) → (types_of L s).trait_of (slice_index_or (binds L (instance_load s i)) k 0) ≡ trait_number L.tables (type_at (imports (domain_of_instance L s i).lines) (Some k))
     bound k lt =
-        let count = plans.binds.count (instance_load s i) in
-        plans.binds.trait (instance_load s i) k (slice_index_or (binds L (instance_load s i)) k 0) (slice_get-get_or (binds L (instance_load s i)) k 0 (omega (arith, count, lt)))
+        let count = binds_count L plans (instance_load s i) in
+        bind_trait L plans (instance_load s i) k (slice_index_or (binds L (instance_load s i)) k 0) (slice_get-get_or (binds L (instance_load s i)) k 0 (omega (arith, count, lt)))

@@ -1,26 +1,27 @@
--- Slots of live instances hold objects of their structs behind each row, and the device keeps its blocks.
+-- Slots of live instances hold objects of their structs after each row, and the device keeps its blocks.
 use Rattle.std.proofs.Common.{◌≡◌, ◌≢◌, ℕ, zero, suc, ◌+◌, ◌-◌, ◌<◌, ◌⊎◌, inl, inr, Bool, true, false, cond, List, [], ◌∷◌, ◌++◌, length, Option, Some, None, slice_get, slice_set, refl, ap, sym, subst, ◌∙◌, arith}
 use Rattle.std.proofs.lemmas.Bool.{cases_eq, cases_lt}
-use Rattle.rl_defs.specs.declared.values.Owner.TheVariants as owner
-use Rattle.rl_defs.specs.declared.entry.Entry.{Entry}
-use Rattle.rl_defs.specs.declared.entry.Entry.TheVariants as entry
-use Rattle.rl_defs.specs.declared.load.Load.{Load}
+use Rattle.machine_defs.specs.declared.values.Owner.TheVariants as owner
+use Rattle.machine_defs.specs.declared.entry.Entry.{Entry}
+use Rattle.machine_defs.specs.declared.entry.Entry.TheVariants as entry
+use Rattle.rl_defs.specs.declared.load.LoadRows.{LoadRows}
 use Rattle.rl_defs.specs.declared.load.LoadRow.{LoadRow}
 use Rattle.rl_defs.specs.Domains.{load_row, load_of_target, domain_of, slots_of}
 use Rattle.rl_defs.specs.CodeNames.{struct_number, type_at, slots as slots_declared}
-use Rattle.rl_defs.specs.State.{State, Instance, Placement, row, lives, is_live}
-use Rattle.rl_defs.specs.Loans.{object_of, sweep}
-use Rattle.rl_defs.specs.Machine.Calling.{with_fuel}
-use Rattle.rl_defs.specs.Machine.Seen.{domain_of_load, domain_of_instance, slots_in, slots, content, in_slot, with_instance, with_slot}
-use Rattle.rl_defs.specs.Machine.NativeFits.{types_of, struct_or_none}
-use Rattle.rl_defs.specs.Machine.CallRows.{instance_for, reloaded}
-use Rattle.rl_defs.specs.Machine.Steps.{Row}
+use Rattle.machine_defs.specs.State.{State, Instance, Placement, lives, is_live}
+use Rattle.rl_defs.specs.Rows.{row}
+use Rattle.machine_defs.specs.Loans.{object_of, sweep}
+use Rattle.machine_defs.specs.Calling.{with_fuel}
+use Rattle.rl_defs.specs.Rows.{domain_of_load}
+use Rattle.machine_defs.specs.Seen.{domain_of_instance, slots, in_slot, with_instance, with_slot}
+use Rattle.machine_defs.specs.Seen.{types_of}
+use Rattle.machine_defs.specs.CallRows.{reloaded}
+use Rattle.machine_defs.specs.Steps.{Row}
 use Rattle.machine_laws.specs.Ledger.{at}
 use Rattle.machine_laws.specs.LedgerOf.{ledger_of}
 use Rattle.machine_laws.specs.LedgerSound.{is_of, Owned}
 use Rattle.machine_laws.specs.Shape.{Laid}
-use Rattle.machine_laws.specs.Plans.{Plans}
-use Rattle.machine_laws.specs.Registers.{HasTables}
+use Rattle.machine_laws.specs.Plans.{Plans, HasTables}
 use Rattle.machine_laws.specs.Fitting.{Fitting}
 use Rattle.machine_laws.proofs.Rows.{at_same, at_other, row_within}
 use Rattle.machine_laws.proofs.Objects.{found_below}
@@ -35,6 +36,7 @@ use Rattle.machine_laws.proofs.LaidRows.{laid_row}
 use Rattle.machine_laws.proofs.StaysRows.{stays_swept, new_stays, instances_row, row_front}
 use Rattle.machine_laws.proofs.ObjectsKept.{does_fit}
 use Rattle.machine_laws.proofs.Unlent.{in_slots_some}
+use Rattle.machine_laws.proofs.Parts.{slots_in, content, struct_or_none, instance_for}
 
 -- a slot of a live instance was full so before
 pub record WasFull (s : State) (i k o : ℕ) : Type 0 where
@@ -54,7 +56,7 @@ slots_same s i change keeps lives' j k o up full = record {
 live_same : (s : State) (i : ℕ) (change : Instance → Instance) → ((x : Instance) → (change x).live ≡ x.live) → (j : ℕ) → is_live (with_instance i change s) j ≡ true → is_live s j ≡ true
 live_same s i change keeps j up = ap (λ (f : ℕ → Bool). f j) (sym (lives_kept s i change keeps)) ∙ up
 
-live_ended : (s : State) (i j : ℕ) → is_live (Rattle.rl_defs.specs.Machine.Seen.ended i s) j ≡ true → is_live s j ≡ true
+live_ended : (s : State) (i j : ℕ) → is_live (Rattle.machine_defs.specs.Seen.ended i s) j ≡ true → is_live s j ≡ true
 live_ended s i j up =
     let known : at i false (is_live s) j ≡ true = ap (λ (f : ℕ → Bool). f j) (sym (lives_ended s i)) ∙ up in
     elim (cases_eq j i) [
@@ -103,7 +105,7 @@ slot_set s i place new j k o up full =
             ap (λ y. content (slice_get (slots_in y) k)) (sym (Rattle.machine_laws.proofs.Rows.row_set_other s.instances i j (record x { slots = slice_set x.slots place new }) w.0 ne)) ∙ h
 
 -- the slots of an instance that is loaded again are empty
-fresh_empty : (L : Load) (n : ℕ) (l : Option LoadRow) (j k o : ℕ) → content (slice_get (slots_in (row (instance_for L n l) j)) k) ≡ Some o → ⊥
+fresh_empty : (L : LoadRows) (n : ℕ) (l : Option LoadRow) (j k o : ℕ) → content (slice_get (slots_in (row (instance_for L n l) j)) k) ≡ Some o → ⊥
 fresh_empty L n l zero k o full = cc
 fresh_empty L n None (suc j) k o full = cc
 fresh_empty L n (Some l) (suc zero) k o full = at_mapped (λ (x : Option (Option ℕ)). content x ≡ Some o → ⊥) (λ slot. None) (slots_of (domain_of L l.domain)) k (λ e. cc (e)) (λ slot e. cc (e)) full
@@ -115,7 +117,7 @@ row_past [] ys (suc j) lt = let e : suc j - 0 ≡ suc j = omega arith in rw e re
 row_past (x ∷ xs) ys (suc zero) lt = absurd (omega (arith, lt))
 row_past (x ∷ xs) ys (suc (suc j)) lt = let e : suc (suc j) - suc (length xs) ≡ suc j - length xs = omega arith in rw e (row_past xs ys (suc j) (omega (arith, lt)))
 
-slots_reload : (L : Load) (s : State) (x i left : ℕ) → SlotsStay s (reloaded L x i left s)
+slots_reload : (L : LoadRows) (s : State) (x i left : ℕ) → SlotsStay s (reloaded L x i left s)
 slots_reload L s x i left j k o up full = elim (cases_lt (length s.instances) j) [
   | inl lt ↦ absurd (fresh_empty L (load_of_target L x) (load_row L (load_of_target L x)) (j - length s.instances) k o (ap (λ y. content (slice_get (slots_in y) k)) (sym (row_past s.instances more j lt)) ∙ full))
   | inr le ↦
@@ -129,7 +131,7 @@ slots_reload L s x i left j k o up full = elim (cases_lt (length s.instances) j)
 slots_still : (s : State) → SlotsStay s s
 slots_still s i k o up full = record { up = up; full = full }
 
-slot_moves : (L : Load) (e : Entry) → (IsPut e → ⊥) → Moves L e SlotsStay
+slot_moves : (L : LoadRows) (e : Entry) → (IsPut e → ⊥) → Moves L e SlotsStay
 slot_moves L e fills = record {
   still = λ s. slots_still s;
   behind = λ s m z a b i k o up full. (let r = b i k o up full in a i k o r.up r.full);
@@ -151,7 +153,7 @@ slot_moves L e fills = record {
 }
 
 -- an object in a slot of a live instance is in the heap
-pub slot_there : (L : Load) (s : State) (i k o : ℕ) → Owned L (ledger_of L s) → is_live s i ≡ true → in_slot s i k ≡ Some o → IsIn s o
+pub slot_there : (L : LoadRows) (s : State) (i k o : ℕ) → Owned L (ledger_of L s) → is_live s i ≡ true → in_slot s i k ≡ Some o → IsIn s o
 slot_there L s i k o owned up full =
     let once = owned.once (owner.Instance i) o up in
     let some = in_slots_some (slots s i) k o full in
@@ -161,7 +163,7 @@ slot_there L s i k o owned up full =
     go None e pos = absurd (omega (arith, pos))
     go (Some p) e pos = seated s o p e
 
-module _ (L : Load) (s : State) (plans : Plans L) (tables : HasTables L.tables) (laid : Laid L s) (owned : Owned L (ledger_of L s)) (fits : Fitting L s) where
+module _ (L : LoadRows) (s : State) (plans : Plans L) (tables : HasTables L.tables) (laid : Laid L s) (owned : Owned L (ledger_of L s)) (fits : Fitting L s) where
   -- the struct of an object that was there and stays
   struct_stays : (made : State) (o : ℕ) (e : Entry) → Row L s e made → IsIn s o → IsIn (sweep made) o → (types_of L (sweep made)).struct_of o ≡ (types_of L s).struct_of o
   struct_stays made o (entry.New t w n ty values) makes before there =
@@ -211,7 +213,7 @@ module _ (L : Load) (s : State) (plans : Plans L) (tables : HasTables L.tables) 
     slots_row (entry.Put t n slot v) makes i k o up full = slots_put t n slot v makes i k o up full
     slots_row e makes i k o up full = slots_before e makes i k o up full (row_moves L SlotsStay e (slot_moves L e (λ puts. puts)) s made makes i k o up full)
 
-pub slots_fit : (L : Load) (s : State) (e : Entry) (made : State) → Plans L → HasTables L.tables → Laid L s → Owned L (ledger_of L s) → Owned L (ledger_of L (sweep made)) → Fitting L s → Row L s e made
+pub slots_fit : (L : LoadRows) (s : State) (e : Entry) (made : State) → Plans L → HasTables L.tables → Laid L s → Owned L (ledger_of L s) → Owned L (ledger_of L (sweep made)) → Fitting L s → Row L s e made
     → (i k o : ℕ) → is_live (sweep made) i ≡ true → in_slot (sweep made) i k ≡ Some o
     → (types_of L (sweep made)).struct_of o ≡ struct_number L.tables (type_at (slots_declared (domain_of_instance L (sweep made) i).lines) (Some k))
 slots_fit L s e made plans tables laid owned owned' fits makes i k o up full = slots_row L s plans tables laid owned fits made owned' e makes i k o up full

@@ -4,27 +4,30 @@ use Rattle.std.proofs.Common.{◌≡◌, ℕ, zero, suc, ◌+◌, ◌<◌, ◌�
 use Rattle.std.specs.Prelude.{All}
 use Rattle.std.specs.List.{list_any}
 use Rattle.std.proofs.lemmas.Bool.{cases_Bool, eqb-true, and_parts, or_cases, not-true}
-use Rattle.rl_defs.specs.declared.values.Owner.TheVariants as owner
-use Rattle.rl_defs.specs.declared.values.RpcCode.{RpcCode}
-use Rattle.rl_defs.specs.declared.load.Load.{Load}
+use Rattle.machine_defs.specs.declared.values.Owner.TheVariants as owner
+use Rattle.machine_defs.specs.declared.values.RpcCode.{RpcCode}
+use Rattle.rl_defs.specs.declared.load.LoadRows.{LoadRows}
 use Rattle.rl_defs.specs.declared.load.Command.{Command}
 use Rattle.rl_defs.specs.declared.load.Command.TheVariants as command
 use Rattle.rl_defs.specs.Domains.{load_of_target, is_serial}
-use Rattle.rl_defs.specs.State.{State, StackFrame, Thread, row, is_live, current, stack, frames_of}
-use Rattle.rl_defs.specs.Wanted.{Commands, Skips, top, commands_of, by_command, can_do, instance_load}
-use Rattle.rl_defs.specs.Crossing.{Wish, outranks, is_in, others_in, is_taken, is_undone}
-use Rattle.rl_defs.specs.Run.{AllDone}
-use Rattle.rl_defs.specs.Machine.Steps.{Turn}
-use Rattle.rl_defs.specs.Machine.NativeFits.{is_target}
-use Rattle.rl_defs.specs.Machine.Frames.{below_top}
-use Rattle.rl_defs.specs.Machine.Calling.{wish, refusal, is_none_code, is_dead, is_reissuable, would_enter, would_reenter, waits, is_enabled}
+use Rattle.machine_defs.specs.State.{State, StackFrame, Thread, is_live, current, stack, frames_of}
+use Rattle.rl_defs.specs.Rows.{row}
+use Rattle.machine_defs.specs.Wants.{Commands, Skips, by_command, can_do}
+use Rattle.machine_defs.specs.State.{top, instance_load}
+use Rattle.rl_defs.specs.Rows.{commands_of}
+use Rattle.machine_defs.specs.Calling.{Wish, outranks, is_in, others_in, is_taken, is_undone}
+use Rattle.machine_defs.specs.Runs.{AllDone}
+use Rattle.machine_defs.specs.Steps.{Turn}
+use Rattle.rl_defs.specs.Rows.{is_target}
+use Rattle.machine_defs.specs.Frames.{below_top}
+use Rattle.machine_defs.specs.Calling.{wish, refusal, is_dead, is_reissuable, would_enter, would_reenter, waits, is_enabled}
+use Rattle.rl_defs.proofs.ValidFacts.{command_fits}
 use Rattle.machine_laws.specs.Ledger.{LedgerFrame}
 use Rattle.machine_laws.specs.LedgerOf.{frame_entry, entries_of, is_done, ledger_of}
 use Rattle.machine_laws.specs.LedgerRows.{enters, IsBelow}
 use Rattle.machine_laws.specs.LedgerSound.{Grounded}
 use Rattle.machine_laws.specs.Shape.{Laid}
-use Rattle.machine_laws.specs.Plans.{Plans}
-use Rattle.machine_laws.specs.Registers.{HasTables}
+use Rattle.machine_laws.specs.Plans.{Plans, HasTables}
 use Rattle.machine_laws.specs.Fitting.{CallFits, CallsFit, Fitting}
 use Rattle.machine_laws.proofs.Stacks.{top_splits}
 use Rattle.machine_laws.proofs.Tops.{bottom, entries, under, entries_top, client_within}
@@ -37,6 +40,7 @@ use Rattle.machine_laws.proofs.Ranks.{RankedIn, below_of}
 use Rattle.machine_laws.proofs.StackFits.{calls_back}
 use Rattle.machine_laws.proofs.KeptSteps.{Kept}
 use Rattle.machine_laws.proofs.NeverStuck.{some_moves}
+use Rattle.machine_laws.proofs.Parts.{is_none_code}
 
 -- where not every client is done, one isn't
 some_undone : (threads : List Thread) → (All (λ thread. thread.done ≡ true) threads → ⊥) → (k : ℕ) × (thread : Thread) × (slice_get threads k ≡ Some thread) × (thread.done ≡ false)
@@ -78,18 +82,18 @@ frame_enters i (f ∷ fs) below is = elim (or_cases (f.instance == i) (is_in i f
 ]
 
 -- an instance that a client may have to wait for: it lives, is serial, and some client is in it
-record IsOccupied (L : Load) (s : State) (i : ℕ) : Type 0 where
+record IsOccupied (L : LoadRows) (s : State) (i : ℕ) : Type 0 where
   pub lives : is_live s i ≡ true
   pub serial : is_serial L (instance_load s i) ≡ true
   pub holder : (u : ℕ) × (0 < u) × (u ≤ length L.clients) × enters i ((ledger_of L s).stack u)
 
 -- and a client that waits for it: it ranks below all live serial instances that the client is in
-record Awaits (L : Load) (s : State) (t i : ℕ) : Type 0 where
+record Awaits (L : LoadRows) (s : State) (t i : ℕ) : Type 0 where
   pub occupied : IsOccupied L s i
   pub below : IsBelow L (ledger_of L s) (instance_load s i) ((ledger_of L s).stack t)
 
 -- an instance that a client may not yet enter is occupied
-occupied_by : (L : Load) (s : State) (t i : ℕ) → Laid L s → is_live s i ≡ true → is_taken L s t i ≡ true → IsOccupied L s i
+occupied_by : (L : LoadRows) (s : State) (t i : ℕ) → Laid L s → is_live s i ≡ true → is_taken L s t i ≡ true → IsOccupied L s i
 occupied_by L s t i laid lives taken =
     let parts = and_parts (is_serial L (instance_load s i)) (others_in i t 1 s.stacks) taken in
     let other = some_other i t 1 s.stacks parts.1 in
@@ -104,12 +108,12 @@ occupied_by L s t i laid lives taken =
       );
     }
 
-module _ (L : Load) (us : List Turn) (s : State) (plans : Plans L) (tables : HasTables L.tables) (laid : Laid L s) (kept : Kept L us (ledger_of L s)) (fits : Fitting L s) where
+module _ (L : LoadRows) (us : List Turn) (s : State) (plans : Plans L) (tables : HasTables L.tables) (laid : Laid L s) (kept : Kept L us (ledger_of L s)) (fits : Fitting L s) where
   -- what is wished is of a target
   client_target : (t : ℕ) (w : Wish) → ClientWish L s t w → is_target L w.target ≡ true
   client_target t w wished =
       let doing = commands_as L s t (Commands (command.Call w.target w.method wished.given wished.names)) tt wished.wants in
-      (plans.scripts.fits t doing.thread.place (command.Call w.target w.method wished.given wished.names) (commanded doing.thread (slice_get (commands_of (row L.clients t)) doing.thread.place) doing.by)).target
+      (command_fits L plans t doing.thread.place (command.Call w.target w.method wished.given wished.names) (commanded doing.thread (slice_get (commands_of (row L.clients t)) doing.thread.place) doing.by)).target
     where
       commanded : (thread : Thread) (next : Option Command) → by_command s thread next ≡ Commands (command.Call w.target w.method wished.given wished.names) → next ≡ Some (command.Call w.target w.method wished.given wished.names)
       commanded thread None e = absurd cc

@@ -1,12 +1,13 @@
 -- Frames stand where they may.
 use Rattle.std.proofs.Common.{◌≡◌, ℕ, ◌+◌, ◌<◌, ◌≤◌, true, List, [], ◌∷◌, ◌++◌, length, refl, ap, sym, subst, ◌∙◌, arith}
-use Rattle.rl_defs.specs.declared.values.Owner.TheVariants as owner
-use Rattle.rl_defs.specs.declared.load.Load.{Load}
+use Rattle.machine_defs.specs.declared.values.Owner.TheVariants as owner
+use Rattle.rl_defs.specs.declared.load.LoadRows.{LoadRows}
 use Rattle.rl_defs.specs.Domains.{load_of_target, is_serial}
-use Rattle.rl_defs.specs.State.{State, StackFrame, row, is_live}
-use Rattle.rl_defs.specs.Wanted.{instance_load}
-use Rattle.rl_defs.specs.Machine.Steps.{Turn}
-use Rattle.rl_defs.specs.Machine.Sound.{IsFrame, FramesPlaced}
+use Rattle.machine_defs.specs.State.{State, StackFrame, is_live}
+use Rattle.rl_defs.specs.Rows.{row}
+use Rattle.machine_defs.specs.State.{instance_load}
+use Rattle.machine_defs.specs.Steps.{Turn}
+use Rattle.machine_defs.specs.Sound.{IsFrame, FramesPlaced}
 use Rattle.machine_laws.specs.LedgerOf.{frame_entry, ledger_of}
 use Rattle.machine_laws.specs.LedgerSound.{Grounded}
 use Rattle.machine_laws.specs.Shape.{Laid}
@@ -16,7 +17,7 @@ use Rattle.machine_laws.proofs.Present.{stack_within}
 use Rattle.machine_laws.proofs.KeptSteps.{Kept}
 use Rattle.machine_laws.proofs.SoundStacks.{entries_split, entries_some, frame_splits, ranked_from, below_from, grounded_from, rises_over}
 
-module _ (L : Load) (us : List Turn) (s : State) (laid : Laid L s) (kept : Kept L us (ledger_of L s)) where
+module _ (L : LoadRows) (us : List Turn) (s : State) (laid : Laid L s) (kept : Kept L us (ledger_of L s)) where
   -- a frame is of one of the clients
   pub frame_within : (t : ℕ) (below : List StackFrame) (f : StackFrame) → IsFrame s t below f → (0 < t) × (t ≤ length L.clients)
   frame_within t below f here = stack_within L s laid kept.owned t below here.above f here.here

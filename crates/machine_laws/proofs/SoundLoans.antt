@@ -5,23 +5,24 @@ use Rattle.std.proofs.lemmas.Bool.{cases_Bool, cases_eq, ne_eqb}
 use Rattle.std.proofs.lemmas.Option.{get_or_from_slice_get}
 use Rattle.rl_defs.specs.declared.values.Value.{Value}
 use Rattle.rl_defs.specs.declared.values.Value.TheVariants as value
-use Rattle.rl_defs.specs.declared.values.Owner.{Owner}
-use Rattle.rl_defs.specs.declared.values.Owner.TheVariants as owner
+use Rattle.machine_defs.specs.declared.values.Owner.{Owner}
+use Rattle.machine_defs.specs.declared.values.Owner.TheVariants as owner
 use Rattle.rl_defs.specs.declared.code.Register.{Register}
 use Rattle.rl_defs.specs.declared.code.RegKind.{RegKind}
 use Rattle.rl_defs.specs.declared.code.RegKind.TheVariants as held
 use Rattle.rl_defs.specs.declared.code.Instr.TheVariants as instr
-use Rattle.rl_defs.specs.declared.frame.FrameBody.TheVariants as body
-use Rattle.rl_defs.specs.declared.load.Load.{Load}
+use Rattle.machine_defs.specs.declared.frame.FrameBody.TheVariants as body
+use Rattle.rl_defs.specs.declared.load.LoadRows.{LoadRows}
 use Rattle.rl_defs.specs.CodeKinds.{Kinds, kinds_at, kind_in, is_own, moved, leave, leave_all}
-use Rattle.rl_defs.specs.CodeFits.{Typing, fits_kind}
-use Rattle.rl_defs.specs.Crossing.{has}
-use Rattle.rl_defs.specs.State.{State, StackFrame, row, is_live, stack}
-use Rattle.rl_defs.specs.Loans.{lent_in as lent_in_frames}
-use Rattle.rl_defs.specs.Machine.Seen.{domain_of_instance}
-use Rattle.rl_defs.specs.Machine.NativeFits.{types_of}
-use Rattle.rl_defs.specs.Machine.Steps.{Turn}
-use Rattle.rl_defs.specs.Machine.Sound.{own_in as own_in_frames, IsRoot, IsFrame, HoldsLent, HoldsOwn, LoansStand}
+use Rattle.rl_defs.specs.Registers.{Typing, fits_kind}
+use Rattle.machine_defs.specs.Arguments.{has}
+use Rattle.machine_defs.specs.State.{State, StackFrame, is_live, stack}
+use Rattle.rl_defs.specs.Rows.{row}
+use Rattle.machine_defs.specs.Loans.{lent_in as lent_in_frames}
+use Rattle.machine_defs.specs.Seen.{domain_of_instance}
+use Rattle.machine_defs.specs.Seen.{types_of}
+use Rattle.machine_defs.specs.Steps.{Turn}
+use Rattle.machine_defs.specs.Sound.{own_in as own_in_frames, IsRoot, IsFrame, HoldsAs, LoansStand}
 use Rattle.machine_laws.specs.Ledger.{alive, lent_in}
 use Rattle.machine_laws.specs.LedgerOf.{frame_entry, client_entry, ledger_of}
 use Rattle.machine_laws.specs.LedgerSound.{own_in, Covered}
@@ -91,7 +92,7 @@ empty_register : (types : Typing) (k : RegKind) (v : Option Value) (o : ℕ) →
 empty_register types k v o fits empty full = let f : fits_kind types held.Empty (Some (value.Obj o)) ≡ true = sym (ap (λ x. fits_kind types x v) empty ∙ ap (λ x. fits_kind types held.Empty x) full) ∙ fits in cc
 
 -- code that runs or waits was lent what its registers known to hold lent objects have, and wasn't lent what those known to hold own ones have
-module _ (L : Load) (s : State) (f : StackFrame) (at : ℕ) (regs : List (Option Value)) (r ty o : ℕ) (here : slice_index_or regs r None ≡ Some (value.Obj o)) where
+module _ (L : LoadRows) (s : State) (f : StackFrame) (at : ℕ) (regs : List (Option Value)) (r ty o : ℕ) (here : slice_index_or regs r None ≡ Some (value.Obj o)) where
   abbrev kinds : Kinds
   kinds = kinds_at (domain_of_instance L s f.instance) at
 
@@ -110,7 +111,7 @@ module _ (L : Load) (s : State) (f : StackFrame) (at : ℕ) (regs : List (Option
         | inr e ↦ absurd (empty_register (types_of L s) (slice_index_or (leave_all (moved (instr.Call w.target w.name w.args w.results w.failed w.label)) kinds) r held.Empty) (slice_index_or regs r None) o (w.fits.regs.each r) e here)
       ]
 
-module _ (L : Load) (us : List Turn) (s : State) (laid : Laid L s) (kept : Kept L us (ledger_of L s)) where
+module _ (L : LoadRows) (us : List Turn) (s : State) (laid : Laid L s) (kept : Kept L us (ledger_of L s)) where
   -- what is lent to a frame of a live owner is held below the frame
   covered_at : (t o : ℕ) (w : Owner) (below : List StackFrame) (f : StackFrame) → IsFrame s t below f → has f.lent o ≡ true → IsRoot s o w → alive (is_live s) w ≡ true → 0 < own_in w o (entries t below (row s.threads t))
   covered_at t o w below f here lent root lives =
@@ -140,15 +141,15 @@ module _ (L : Load) (us : List Turn) (s : State) (laid : Laid L s) (kept : Kept 
   body_at : Fitting L s → (t : ℕ) (below : List StackFrame) (f : StackFrame) → (here : IsFrame s t below f) → is_live s f.instance ≡ true → BodyFits L s f here.above f.body
   body_at fits t below f here lives = (fits_split L s below here.above f (subst (StackFits L s) here.here (fits.bodies t))).0 lives
 
-  registers_lent : Fitting L s → (t o : ℕ) (below : List StackFrame) (f : StackFrame) → IsFrame s t below f → is_live s f.instance ≡ true → HoldsLent L s f o → has f.lent o ≡ true
-  registers_lent fits t o below f here lives h =
+  registers_lent : Fitting L s → (t o ty : ℕ) (below : List StackFrame) (f : StackFrame) → IsFrame s t below f → is_live s f.instance ≡ true → HoldsAs L s f (held.Lent ty) o → has f.lent o ≡ true
+  registers_lent fits t o ty below f here lives h =
       let b = subst (BodyFits L s f here.above) h.code (body_at fits t below f here lives) in
-      body_lent L s f h.at h.regs h.number h.ty o (get_or_from_slice_get h.regs h.number (Some (value.Obj o)) None h.object) here.above b (get_or_from_slice_get (kinds_at (domain_of_instance L s f.instance) h.at) h.number (held.Lent h.ty) held.Empty h.kind)
+      body_lent L s f h.at h.regs h.number ty o (get_or_from_slice_get h.regs h.number (Some (value.Obj o)) None h.object) here.above b (get_or_from_slice_get (kinds_at (domain_of_instance L s f.instance) h.at) h.number (held.Lent ty) held.Empty h.kind)
 
-  registers_own : Fitting L s → (t o : ℕ) (below : List StackFrame) (f : StackFrame) → IsFrame s t below f → is_live s f.instance ≡ true → HoldsOwn L s f o → has f.lent o ≡ false
-  registers_own fits t o below f here lives h =
+  registers_own : Fitting L s → (t o ty : ℕ) (below : List StackFrame) (f : StackFrame) → IsFrame s t below f → is_live s f.instance ≡ true → HoldsAs L s f (held.Own ty) o → has f.lent o ≡ false
+  registers_own fits t o ty below f here lives h =
       let b = subst (BodyFits L s f here.above) h.code (body_at fits t below f here lives) in
-      body_own L s f h.at h.regs h.number h.ty o (get_or_from_slice_get h.regs h.number (Some (value.Obj o)) None h.object) here.above b (get_or_from_slice_get (kinds_at (domain_of_instance L s f.instance) h.at) h.number (held.Own h.ty) held.Empty h.kind)
+      body_own L s f h.at h.regs h.number ty o (get_or_from_slice_get h.regs h.number (Some (value.Obj o)) None h.object) here.above b (get_or_from_slice_get (kinds_at (domain_of_instance L s f.instance) h.at) h.number (held.Own ty) held.Empty h.kind)
 
   -- What is lent is a root, to frames of one stack, above its owner's one place.
   pub loans_stand : Fitting L s → LoansStand L s

@@ -1,15 +1,16 @@
 -- Roots are held once, and what hangs hangs alone.
 use Rattle.std.proofs.Common.{◌≡◌, ℕ, zero, suc, ◌+◌, ◌<◌, ◌≤◌, ◌==◌, Bool, true, false, cond, not, List, [], ◌∷◌, length, Option, Some, None, refl, ap, sym, subst, ◌∙◌, arith, inl, inr}
 use Rattle.std.proofs.lemmas.Bool.{cases_eq, eq-eqb, ne_eqb}
-use Rattle.rl_defs.specs.declared.values.Owner.{Owner}
-use Rattle.rl_defs.specs.declared.values.Owner.TheVariants as owner
-use Rattle.rl_defs.specs.declared.load.Load.{Load}
-use Rattle.rl_defs.specs.State.{State, StackFrame, Object, Hung, Thread, row, is_live, stack, frames_of}
-use Rattle.rl_defs.specs.Loans.{object_of, count, loans}
-use Rattle.rl_defs.specs.Machine.Seen.{slots}
-use Rattle.rl_defs.specs.Machine.History.{sum_to}
-use Rattle.rl_defs.specs.Machine.Steps.{Turn}
-use Rattle.rl_defs.specs.Machine.Sound.{owner_lives, in_names, in_slots as in_slots_listed, own_in as own_in_frames, own_in_all, places, HeldOnce, HungAlone}
+use Rattle.machine_defs.specs.declared.values.Owner.{Owner}
+use Rattle.machine_defs.specs.declared.values.Owner.TheVariants as owner
+use Rattle.rl_defs.specs.declared.load.LoadRows.{LoadRows}
+use Rattle.machine_defs.specs.State.{State, StackFrame, Object, Hung, Thread, is_live, stack, frames_of}
+use Rattle.rl_defs.specs.Rows.{row}
+use Rattle.machine_defs.specs.Loans.{object_of, count, loans}
+use Rattle.machine_defs.specs.Seen.{slots}
+use Rattle.machine_laws.specs.Ledger.{sum_to}
+use Rattle.machine_defs.specs.Steps.{Turn}
+use Rattle.machine_defs.specs.Sound.{owner_lives, in_names, in_slots as in_slots_listed, own_in as own_in_frames, own_in_all, places, HeldOnce, HungAlone}
 use Rattle.machine_laws.specs.Ledger.{alive}
 use Rattle.machine_laws.specs.LedgerOf.{client_entry, entries_of, names_held, seat_of, ledger_of}
 use Rattle.machine_laws.specs.LedgerSound.{in_slots, own_in, held, is_of}
@@ -101,7 +102,7 @@ sum_names s u o n long = go (row s.threads u) refl
         ]
 
 -- an owner has an object in as many places of a state as of its ledger
-places_same : (L : Load) (s : State) (w : Owner) (o : ℕ) → Laid L s → held L (ledger_of L s) w o ≡ places s w o
+places_same : (L : LoadRows) (s : State) (w : Owner) (o : ℕ) → Laid L s → held L (ledger_of L s) w o ≡ places s w o
 places_same L s (owner.Client u) o laid =
     let each = sum_same (λ t. own_in (owner.Client u) o (entries_of (stack s t) (client_entry s t ∷ []))) (only u (named s o)) (length L.clients) (λ t pos le. (let r = own_client u o (stack s t) (client_entry s t ∷ []) in omega (arith, r))) in
     let names = sum_names s u o (length L.clients) laid.threads in
@@ -112,7 +113,7 @@ places_same L s (owner.Instance i) o laid =
     let contents = slots_same o (slots s i) in
     omega (arith, each, frames, contents)
 
-module _ (L : Load) (us : List Turn) (s : State) (laid : Laid L s) (kept : Kept L us (ledger_of L s)) where
+module _ (L : LoadRows) (us : List Turn) (s : State) (laid : Laid L s) (kept : Kept L us (ledger_of L s)) where
   -- A root of a live owner is in exactly one place of it; and a live owner has nothing else.
   pub held_once : HeldOnce s
   held_once = record {

@@ -1,12 +1,13 @@
 -- A frame of a state's stack, in the stack of the ledger.
 use Rattle.std.proofs.Common.{◌≡◌, ℕ, ◌+◌, ◌<◌, ◌==◌, Bool, cond, List, [], ◌∷◌, ◌++◌, Option, Some, refl, ap, sym, ◌∙◌, arith, inl, inr}
 use Rattle.std.proofs.lemmas.Bool.{cases_eq, ne_eqb}
-use Rattle.rl_defs.specs.declared.values.Owner.{Owner}
-use Rattle.rl_defs.specs.declared.values.Owner.TheVariants as owner
-use Rattle.rl_defs.specs.declared.load.Load.{Load}
-use Rattle.rl_defs.specs.State.{State, StackFrame, Placement, Root, row}
-use Rattle.rl_defs.specs.Loans.{count}
-use Rattle.rl_defs.specs.Machine.Sound.{own_of, own_in as own_in_frames, IsRoot, IsFrame}
+use Rattle.machine_defs.specs.declared.values.Owner.{Owner}
+use Rattle.machine_defs.specs.declared.values.Owner.TheVariants as owner
+use Rattle.rl_defs.specs.declared.load.LoadRows.{LoadRows}
+use Rattle.machine_defs.specs.State.{State, StackFrame, Placement, Root}
+use Rattle.rl_defs.specs.Rows.{row}
+use Rattle.machine_defs.specs.Loans.{count}
+use Rattle.machine_defs.specs.Sound.{own_of, own_in as own_in_frames, IsRoot, IsFrame}
 use Rattle.machine_laws.specs.Ledger.{LedgerFrame}
 use Rattle.machine_laws.specs.LedgerOf.{frame_entry, entries_of, seat_of, ledger_of}
 use Rattle.machine_laws.specs.LedgerSound.{own_in, Covered, Grounded}
@@ -36,7 +37,7 @@ pub entries_some : (fs : List StackFrame) (r : LedgerFrame) (rest : List LedgerF
 entries_some [] r rest = (r, rest, refl)
 entries_some (f ∷ fs) r rest = entries_some fs (frame_entry f) (r ∷ rest)
 
-pub frame_splits : (L : Load) (s : State) (t : ℕ) (below : List StackFrame) (f : StackFrame) → IsFrame s t below f → (over : List LedgerFrame) × ((ledger_of L s).stack t ≡ over ++ frame_entry f ∷ entries t below (row s.threads t))
+pub frame_splits : (L : LoadRows) (s : State) (t : ℕ) (below : List StackFrame) (f : StackFrame) → IsFrame s t below f → (over : List LedgerFrame) × ((ledger_of L s).stack t ≡ over ++ frame_entry f ∷ entries t below (row s.threads t))
 frame_splits L s t below f here =
     let r = entries_split below here.above f (bottom t (row s.threads t) ∷ []) in
     (r.0, ap (λ fs. entries t fs (row s.threads t)) here.here ∙ r.1)
@@ -65,21 +66,21 @@ pub covered_from : (live : ℕ → Bool) (seat : ℕ → Option Placement) (over
 covered_from live seat [] fs c = c
 covered_from live seat (g ∷ over) fs c = covered_from live seat over fs c.1
 
-pub ranked_from : (L : Load) (loads : ℕ → ℕ) (live : ℕ → Bool) (over fs : List LedgerFrame) → RankedIn L loads live (over ++ fs) → RankedIn L loads live fs
+pub ranked_from : (L : LoadRows) (loads : ℕ → ℕ) (live : ℕ → Bool) (over fs : List LedgerFrame) → RankedIn L loads live (over ++ fs) → RankedIn L loads live fs
 ranked_from L loads live [] fs r = r
 ranked_from L loads live (g ∷ over) fs r = ranked_from L loads live over fs r.1
 
-pub below_from : (L : Load) (loads : ℕ → ℕ) (live : ℕ → Bool) (rank : ℕ) (over fs : List LedgerFrame) → BelowIn L loads live rank (over ++ fs) → BelowIn L loads live rank fs
+pub below_from : (L : LoadRows) (loads : ℕ → ℕ) (live : ℕ → Bool) (rank : ℕ) (over fs : List LedgerFrame) → BelowIn L loads live rank (over ++ fs) → BelowIn L loads live rank fs
 below_from L loads live rank [] fs b = b
 below_from L loads live rank (g ∷ over) fs b = below_from L loads live rank over fs b.1
 
-pub grounded_from : (L : Load) (loads : ℕ → ℕ) (ni nc t : ℕ) (over : List LedgerFrame) (f : LedgerFrame) (fs : List LedgerFrame) → Grounded L loads ni nc t (over ++ f ∷ fs) → Grounded L loads ni nc t (f ∷ fs)
+pub grounded_from : (L : LoadRows) (loads : ℕ → ℕ) (ni nc t : ℕ) (over : List LedgerFrame) (f : LedgerFrame) (fs : List LedgerFrame) → Grounded L loads ni nc t (over ++ f ∷ fs) → Grounded L loads ni nc t (f ∷ fs)
 grounded_from L loads ni nc t [] f fs g = g
 grounded_from L loads ni nc t (h ∷ []) f fs g = g.4
 grounded_from L loads ni nc t (h ∷ (k ∷ over)) f fs g = grounded_from L loads ni nc t (k ∷ over) f fs g.4
 
 -- a frame has a greater number than each below it
-pub rises_over : (L : Load) (loads : ℕ → ℕ) (ni nc t : ℕ) (f : LedgerFrame) (over : List LedgerFrame) (g : LedgerFrame) (fs : List LedgerFrame) → Grounded L loads ni nc t (f ∷ (over ++ g ∷ fs)) → g.call < f.call
+pub rises_over : (L : LoadRows) (loads : ℕ → ℕ) (ni nc t : ℕ) (f : LedgerFrame) (over : List LedgerFrame) (g : LedgerFrame) (fs : List LedgerFrame) → Grounded L loads ni nc t (f ∷ (over ++ g ∷ fs)) → g.call < f.call
 rises_over L loads ni nc t f [] g fs grounded = grounded.2
 rises_over L loads ni nc t f (h ∷ over) g fs grounded =
     let deeper = rises_over L loads ni nc t h over g fs grounded.4 in

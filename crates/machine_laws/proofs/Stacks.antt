@@ -1,13 +1,14 @@
 -- The stacks of a state and those of its ledger.
 use Rattle.std.proofs.Common.{◌≡◌, ℕ, zero, suc, ◌+◌, ◌<◌, not, List, [], ◌∷◌, ◌++◌, length, Option, Some, None, refl, ap, ◌∙◌, arith}
-use Rattle.rl_defs.specs.declared.values.Owner.{Owner}
-use Rattle.rl_defs.specs.declared.values.Owner.TheVariants as owner
-use Rattle.rl_defs.specs.declared.load.Load.{Load}
-use Rattle.rl_defs.specs.State.{State, StackFrame, Object, Placement, Root, Hung, row, is_live, stack, frames_of}
-use Rattle.rl_defs.specs.Loans.{count, lent_in as lent_in_frames, lent_in_all, loans as loans_of, has_ended, object_of, is_lost as is_lost_in, is_lost_parent, is_doomed_at as is_doomed_in, is_doomed as is_doomed_object}
-use Rattle.rl_defs.specs.Wanted.{top}
-use Rattle.rl_defs.specs.Machine.Frames.{below_top}
-use Rattle.rl_defs.specs.Machine.History.{sum_to}
+use Rattle.machine_defs.specs.declared.values.Owner.{Owner}
+use Rattle.machine_defs.specs.declared.values.Owner.TheVariants as owner
+use Rattle.rl_defs.specs.declared.load.LoadRows.{LoadRows}
+use Rattle.machine_defs.specs.State.{State, StackFrame, Object, Placement, Root, Hung, is_live, stack, frames_of}
+use Rattle.rl_defs.specs.Rows.{row}
+use Rattle.machine_defs.specs.Loans.{count, lent_in as lent_in_frames, lent_in_all, loans as loans_of, has_ended, object_of, is_lost as is_lost_in, is_lost_parent, is_doomed_at as is_doomed_in, is_doomed as is_doomed_object}
+use Rattle.machine_defs.specs.State.{top}
+use Rattle.machine_defs.specs.Frames.{below_top}
+use Rattle.machine_laws.specs.Ledger.{sum_to}
 use Rattle.machine_laws.specs.Ledger.{LedgerFrame, alive, lent_in, loans, is_lost, is_lost_above, is_doomed_at, is_doomed}
 use Rattle.machine_laws.specs.LedgerOf.{frame_entry, client_entry, entries_of, seat_of, ledger_of}
 use Rattle.machine_laws.specs.Shape.{Laid}
@@ -60,7 +61,7 @@ lent_sum o (fs ∷ stacks) =
     one zero pos = absurd (omega arith)
     one (suc t) pos = refl
 
-pub loans_same : (L : Load) (s : State) (o : ℕ) → Laid L s → loans L (ledger_of L s) o ≡ loans_of s o
+pub loans_same : (L : LoadRows) (s : State) (o : ℕ) → Laid L s → loans L (ledger_of L s) o ≡ loans_of s o
 loans_same L s o laid =
     let each = sum_same (λ t. lent_in o (entries_of (stack s t) (client_entry s t ∷ []))) (λ t. lent_in_frames o (stack s t)) (length L.clients) (λ t pos le. (let r = lent_entries o (stack s t) (client_entry s t ∷ []) in omega (arith, r))) in
     let all' = lent_sum o s.stacks in
@@ -71,17 +72,17 @@ pub ended_same : (s : State) (w : Owner) → has_ended s w ≡ not (alive (is_li
 ended_same s (owner.Client t) = refl
 ended_same s (owner.Instance i) = refl
 
-pub lost_same : (L : Load) (s : State) (o : ℕ) (w : Owner) → Laid L s → is_lost (is_live s) (loans L (ledger_of L s) o) w ≡ is_lost_in s o w
+pub lost_same : (L : LoadRows) (s : State) (o : ℕ) (w : Owner) → Laid L s → is_lost (is_live s) (loans L (ledger_of L s) o) w ≡ is_lost_in s o w
 lost_same L s o w laid = rw (loans_same L s o laid, ended_same s w) refl
 
-pub doomed_same : (L : Load) (s : State) (x : Object) → Laid L s → object_of s x.number ≡ Some x → is_doomed L (ledger_of L s) x.number ≡ is_doomed_object s x
+pub doomed_same : (L : LoadRows) (s : State) (x : Object) → Laid L s → object_of s x.number ≡ Some x → is_doomed L (ledger_of L s) x.number ≡ is_doomed_object s x
 doomed_same L s x laid here = rw here (by_place x.placement)
   where
     above : (p : ℕ) (found' : Option Object) → object_of s p ≡ found' → is_lost_above (is_live s) (loans L (ledger_of L s)) p (seat_of found') ≡ is_lost_parent s found'
     above p None e = refl
     above p (Some y) e = at_place y (found_number p s.objects y e) y.placement
       where
-        at_place : (y : Object) → y.number ≡ p → (placement : Placement) → is_lost_above (is_live s) (loans L (ledger_of L s)) p (Some placement) ≡ Rattle.rl_defs.specs.Loans.is_lost_at s y.number placement
+        at_place : (y : Object) → y.number ≡ p → (placement : Placement) → is_lost_above (is_live s) (loans L (ledger_of L s)) p (Some placement) ≡ Rattle.machine_defs.specs.Loans.is_lost_at s y.number placement
         at_place y same (Root w) = rw same (lost_same L s p w laid)
         at_place y same (Hung q k) = refl
 

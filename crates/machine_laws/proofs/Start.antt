@@ -4,20 +4,23 @@ use Rattle.std.proofs.lemmas.Bool.{and_from, le-leb, lt-leb}
 use Rattle.std.proofs.lemmas.Option.{slice_get-map, slice_get_cases}
 use Rattle.std.specs.List.{filter_map, flat_map, slice_index_or}
 use Rattle.std.proofs.Math.Bool.{and-false}
-use Rattle.rl_defs.specs.declared.values.Owner.TheVariants as owner
-use Rattle.rl_defs.specs.declared.load.Load.{Load}
+use Rattle.machine_defs.specs.declared.values.Owner.TheVariants as owner
+use Rattle.rl_defs.specs.declared.load.LoadRows.{LoadRows}
 use Rattle.rl_defs.specs.declared.load.LoadRow.{LoadRow}
 use Rattle.rl_defs.specs.Domains.{load_of_target, slots_of, words_of, domain_of}
-use Rattle.rl_defs.specs.State.{row, start, first_instances, first_instance, first_thread, first_shadow, no_frames, frames_of, Instance, is_live, stack, StackFrame, bound_by}
-use Rattle.rl_defs.specs.Wanted.{instance_load}
-use Rattle.rl_defs.specs.Machine.NativeFits.{is_target}
-use Rattle.rl_defs.specs.Machine.Seen.{words, slots, words_in, slots_in}
-use Rattle.rl_defs.specs.Machine.Calling.{restarts_left, left_of}
-use Rattle.rl_defs.specs.Machine.Sound.{object_held}
-use Rattle.rl_defs.specs.Machine.History.{restarts_in, restarts_of}
+use Rattle.rl_defs.specs.Rows.{row, bound_by}
+use Rattle.machine_defs.specs.State.{start, first_instances, first_instance, first_thread, first_shadow, no_frames, frames_of, Instance, is_live, stack, StackFrame}
+use Rattle.machine_defs.specs.State.{instance_load}
+use Rattle.rl_defs.specs.Rows.{is_target}
+use Rattle.machine_defs.specs.Seen.{words, slots}
+use Rattle.machine_defs.specs.Calling.{restarts_left}
+use Rattle.machine_defs.specs.Sound.{object_held}
+use Rattle.machine_defs.specs.History.{restarts_of}
+use Rattle.machine_laws.proofs.Parts.{restarts_in}
 use Rattle.machine_laws.specs.Ledger.{LedgerFrame}
 use Rattle.machine_laws.specs.LedgerOf.{names_held, ledger_of}
 use Rattle.machine_laws.proofs.Rows.{zeros}
+use Rattle.machine_laws.proofs.Parts.{words_in, slots_in, left_of}
 
 -- a claim on a place of a mapped list
 pub at_mapped : {A B : Type 0} (Holds : Option B → Type 0) (f : A → B) (xs : List A) (n : ℕ) → Holds None → ((x : A) → Holds (Some (f x))) → Holds (slice_get (map f xs) n)
@@ -30,16 +33,16 @@ row_mapped Holds f xs zero none some = none
 row_mapped Holds f xs (suc n) none some = at_mapped Holds f xs n none some
 
 -- the first instances
-pub instance_at : (L : Load) (Holds : Option Instance → Type 0) (ls : List LoadRow) (k n : ℕ) → Holds None → ((j : ℕ) (l : LoadRow) → Holds (Some (first_instance L j l))) → Holds (slice_get (first_instances L k ls) n)
+pub instance_at : (L : LoadRows) (Holds : Option Instance → Type 0) (ls : List LoadRow) (k n : ℕ) → Holds None → ((j : ℕ) (l : LoadRow) → Holds (Some (first_instance L j l))) → Holds (slice_get (first_instances L k ls) n)
 instance_at L Holds [] k n none some = none
 instance_at L Holds (l ∷ ls) k zero none some = some k l
 instance_at L Holds (l ∷ ls) k (suc n) none some = instance_at L Holds ls (k + 1) n none some
 
-pub instance_row : (L : Load) (Holds : Option Instance → Type 0) (i : ℕ) → Holds None → ((j : ℕ) (l : LoadRow) → Holds (Some (first_instance L j l))) → Holds (row (start L).instances i)
+pub instance_row : (L : LoadRows) (Holds : Option Instance → Type 0) (i : ℕ) → Holds None → ((j : ℕ) (l : LoadRow) → Holds (Some (first_instance L j l))) → Holds (row (start L).instances i)
 instance_row L Holds zero none some = none
 instance_row L Holds (suc i) none some = instance_at L Holds L.loads 1 i none some
 
-pub instance_number : (L : Load) (ls : List LoadRow) (k n : ℕ) → n < length ls → (l : LoadRow) × (slice_get (first_instances L k ls) n ≡ Some (first_instance L (k + n) l))
+pub instance_number : (L : LoadRows) (ls : List LoadRow) (k n : ℕ) → n < length ls → (l : LoadRow) × (slice_get (first_instances L k ls) n ≡ Some (first_instance L (k + n) l))
 instance_number L [] k n lt = absurd (omega arith)
 instance_number L (l ∷ ls) k zero lt = (l, ap (λ j. Some (first_instance L j l)) (omega arith))
 instance_number L (l ∷ ls) k (suc n) lt =
@@ -47,16 +50,16 @@ instance_number L (l ∷ ls) k (suc n) lt =
     let e : k + 1 + n ≡ k + suc n = omega arith in
     (r.0, r.1 ∙ ap (λ j. Some (first_instance L j r.0)) e)
 
-pub instance_past : (L : Load) (ls : List LoadRow) (k n : ℕ) → length ls ≤ n → slice_get (first_instances L k ls) n ≡ None
+pub instance_past : (L : LoadRows) (ls : List LoadRow) (k n : ℕ) → length ls ≤ n → slice_get (first_instances L k ls) n ≡ None
 instance_past L [] k n le = refl
 instance_past L (l ∷ ls) k zero le = absurd (omega arith)
 instance_past L (l ∷ ls) k (suc n) le = instance_past L ls (k + 1) n (omega arith)
 
-pub instances_length : (L : Load) (ls : List LoadRow) (k : ℕ) → length (first_instances L k ls) ≡ length ls
+pub instances_length : (L : LoadRows) (ls : List LoadRow) (k : ℕ) → length (first_instances L k ls) ≡ length ls
 instances_length L [] k = refl
 instances_length L (l ∷ ls) k = ap suc (instances_length L ls (k + 1))
 
-module _ (L : Load) where
+module _ (L : LoadRows) where
   pub next_first : length (start L).instances + 1 ≡ suc (length L.loads)
   next_first = let e = instances_length L L.loads 1 in omega arith
 
@@ -102,7 +105,7 @@ module _ (L : Load) where
   no_target x lt = rw (lt-leb x (length L.loads + length L.shadows) lt) (and-false (nat_le 1 x))
 
   pub current_first : (x : ℕ) → (ledger_of L (start L)).current x ≡ load_of_target L x
-  current_first zero = refl
+  current_first zero = let none : 0 - length L.loads ≡ 0 = omega arith in rw none refl
   current_first (suc k) = elim (slice_get_cases L.loads k).1 [
     | inl load ↦ (
         let none : suc k - length L.loads ≡ 0 = (let lt = load.1 in omega arith) in
@@ -113,7 +116,7 @@ module _ (L : Load) where
           | inl shadow ↦ (
               let there = slice_get-map first_shadow L.shadows (k - length L.loads) in
               rw (target_if (suc k) (omega arith) (let lt = shadow.1 in omega arith), past.1, later, there, shadow.2) refl)
-          | inr none ↦ rw (no_target (suc k) (let le = none.0 in omega arith), past.1, none.1) refl
+          | inr none ↦ rw (no_target (suc k) (let le = none.0 in omega arith), past.1, later, none.1) refl
         ])
   ]
 

@@ -2,20 +2,23 @@
 use Rattle.std.proofs.Common.{◌≡◌, ℕ, zero, suc, ◌+◌, ◌<◌, List, [], ◌∷◌, length, map, replicate, Option, Some, None, slice_get, refl, ap, sym, subst, ◌∙◌, arith}
 use Rattle.std.specs.List.{flat_map}
 use Rattle.std.proofs.lemmas.List.{length-replicate, length-map}
-use Rattle.rl_defs.specs.declared.load.Load.{Load}
+use Rattle.rl_defs.specs.declared.load.LoadRows.{LoadRows}
 use Rattle.rl_defs.specs.declared.load.LoadRow.{LoadRow}
 use Rattle.rl_defs.specs.declared.load.ClientRow.{ClientRow}
-use Rattle.rl_defs.specs.State.{StackFrame, Instance, Thread, row, stack, start, first_instances, first_instance, first_thread, first_shadow, no_frames, frames_of, bound_by}
-use Rattle.rl_defs.specs.Wanted.{held}
-use Rattle.rl_defs.specs.Machine.Seen.{in_slot, slots, content}
-use Rattle.valid_loads.specs.ScriptFacts.{ScriptsStand}
+use Rattle.machine_defs.specs.State.{StackFrame, Instance, Thread, stack, start, first_instances, first_instance, first_thread, first_shadow, no_frames, frames_of}
+use Rattle.rl_defs.specs.Rows.{row, bound_by}
+use Rattle.machine_defs.specs.Wants.{name_held}
+use Rattle.machine_defs.specs.Seen.{in_slot, slots}
+use Rattle.rl_defs.specs.Valid.{Valid}
+use Rattle.rl_defs.proofs.ValidFacts.{name_within}
 use Rattle.machine_laws.specs.Plans.{Plans}
 use Rattle.machine_laws.specs.Shape.{Laid}
 use Rattle.machine_laws.specs.Fitting.{StackFits, CallsFit, BlockFits, NamesFit, Fitting}
 use Rattle.machine_laws.proofs.Start.{slot_first, row_mapped}
 use Rattle.machine_laws.proofs.InstancesKept.{AllInstances, first_fits}
+use Rattle.machine_laws.proofs.Parts.{content}
 
-pub start_laid : (L : Load) → Laid L (start L)
+pub start_laid : (L : LoadRows) → Laid L (start L)
 start_laid L = record {
   stacks = length-map L.clients (λ client. no_frames);
   threads = length-map L.clients first_thread;
@@ -25,7 +28,7 @@ start_laid L = record {
 }
 
 -- a first instance is that of its load
-first_at : (L : Load) (ls : List LoadRow) (k n : ℕ) (x : Instance) → slice_get (first_instances L k ls) n ≡ Some x → (l : LoadRow) × (slice_get ls n ≡ Some l) × (x ≡ first_instance L (k + n) l)
+first_at : (L : LoadRows) (ls : List LoadRow) (k n : ℕ) (x : Instance) → slice_get (first_instances L k ls) n ≡ Some x → (l : LoadRow) × (slice_get ls n ≡ Some l) × (x ≡ first_instance L (k + n) l)
 first_at L [] k n x is = absurd cc
 first_at L (l ∷ ls) k zero x is = (l, refl, (let e : first_instance L k l ≡ x = cc in let n : k + 0 ≡ k = omega arith in sym e ∙ ap (λ j. first_instance L j l) (sym n)))
 first_at L (l ∷ ls) k (suc n) x is =
@@ -33,7 +36,7 @@ first_at L (l ∷ ls) k (suc n) x is =
     let e : k + 1 + n ≡ k + suc n = omega arith in
     (r.0, r.1, r.2 ∙ ap (λ j. first_instance L j r.0) e)
 
-start_instances : (L : Load) → AllInstances L (start L).instances
+start_instances : (L : LoadRows) → AllInstances L (start L).instances
 start_instances L zero x is = absurd cc
 start_instances L (suc n) x is =
     let r = first_at L L.loads 1 n x is in
@@ -41,7 +44,7 @@ start_instances L (suc n) x is =
     rw (r.2, e) (first_fits L (suc n) r.0 r.1)
 
 -- nothing in a list of nothing
-none_at : (n k : ℕ) → held (replicate n None) k ≡ None
+none_at : (n k : ℕ) → name_held (replicate n None) k ≡ None
 none_at zero k = refl
 none_at (suc n) zero = refl
 none_at (suc n) (suc k) = none_at n k
@@ -51,23 +54,23 @@ same_at zero k x y is = absurd cc
 same_at (suc n) zero x y is = cc
 same_at (suc n) (suc k) x y is = same_at n k x y is
 
-stack_empty : (L : Load) (t : ℕ) → stack (start L) t ≡ []
+stack_empty : (L : LoadRows) (t : ℕ) → stack (start L) t ≡ []
 stack_empty L t = row_mapped (λ (x : Option (List StackFrame)). frames_of x ≡ []) (λ client. no_frames) L.clients t refl (λ client. refl)
 
 -- a first thread has names for what the script binds, and they hold nothing
-names_start : (L : Load) (t : ℕ) (client : ClientRow) → ScriptsStand L → row L.clients t ≡ Some client → NamesFit L (start L) t (first_thread client)
+names_start : (L : LoadRows) (t : ℕ) (client : ClientRow) → Valid L → row L.clients t ≡ Some client → NamesFit L (start L) t (first_thread client)
 names_start L t client scripts of =
     let count : length (replicate (length (flat_map bound_by client.commands)) None) ≡ length (flat_map bound_by client.commands) = length-replicate (length (flat_map bound_by client.commands)) None in
     record {
       kinds = λ k v is. absurd (let e = none_at (length (flat_map bound_by client.commands)) k in cc (e, is));
       later = λ k binds. none_at (length (flat_map bound_by client.commands)) k;
       room = λ k binds. (
-          let within = scripts.within t binds.0 binds.1 k binds.2 binds.4 binds.5 in
+          let within = name_within L scripts t binds.0 binds.1 k binds.2 binds.4 binds.5 in
           let within' : k < length (flat_map bound_by client.commands) = rw of at within in
           subst (λ n. k < n) (sym count) within');
     }
 
-thread_start : (L : Load) (t : ℕ) (thread : Thread) → row (map first_thread L.clients) t ≡ Some thread → (client : ClientRow) × (row L.clients t ≡ Some client) × (thread ≡ first_thread client)
+thread_start : (L : LoadRows) (t : ℕ) (thread : Thread) → row (map first_thread L.clients) t ≡ Some thread → (client : ClientRow) × (row L.clients t ≡ Some client) × (thread ≡ first_thread client)
 thread_start L zero thread is = absurd cc
 thread_start L (suc t) thread is = go L.clients t is
   where
@@ -80,7 +83,7 @@ thread_start L (suc t) thread is = go L.clients t is
 pub block_blank : BlockFits (replicate 64 0)
 block_blank = record { size = refl; words = refl }
 
-pub start_fitting : (L : Load) → Plans L → ScriptsStand L → Fitting L (start L)
+pub start_fitting : (L : LoadRows) → Plans L → Valid L → Fitting L (start L)
 start_fitting L plans scripts = record {
   bodies = λ t. subst (StackFits L (start L)) (sym (stack_empty L t)) tt;
   calls = λ t. subst (CallsFit L (start L)) (sym (stack_empty L t)) tt;

@@ -1,12 +1,12 @@
 -- What every step keeps holds at the start.
 use Rattle.std.proofs.Common.{◌≡◌, ℕ, ◌<◌, ◌≤◌, true, not, [], ◌∷◌, Option, Some, None, refl, ap, sym, arith, inl, inr, slice_get, length}
 use Rattle.std.proofs.lemmas.Bool.{cases_Bool}
-use Rattle.rl_defs.specs.declared.values.Owner.{Owner}
-use Rattle.rl_defs.specs.declared.values.Owner.TheVariants as owner
-use Rattle.rl_defs.specs.declared.load.Load.{Load}
+use Rattle.machine_defs.specs.declared.values.Owner.{Owner}
+use Rattle.machine_defs.specs.declared.values.Owner.TheVariants as owner
+use Rattle.rl_defs.specs.declared.load.LoadRows.{LoadRows}
 use Rattle.rl_defs.specs.Domains.{load_of_target}
-use Rattle.rl_defs.specs.State.{start}
-use Rattle.rl_defs.specs.Machine.Seen.{content, slots}
+use Rattle.machine_defs.specs.State.{start}
+use Rattle.machine_defs.specs.Seen.{slots}
 use Rattle.machine_laws.specs.Ledger.{same_owner, Ledger, lent_in}
 use Rattle.machine_laws.specs.LedgerOf.{ledger_of}
 use Rattle.machine_laws.specs.LedgerSound.{own_in, held, Owned, Placed, IsPlan}
@@ -19,8 +19,9 @@ use Rattle.machine_laws.proofs.Ranks.{is_entered, Ranks}
 use Rattle.machine_laws.proofs.CountedCalls.{times_open, Counted}
 use Rattle.machine_laws.proofs.KeptSteps.{Kept}
 use Rattle.machine_laws.proofs.Start.{next_first, load_first, live_first, dead_past, word_first, slot_first, first_frame, stack_first, current_first, left_first}
+use Rattle.machine_laws.proofs.Parts.{content}
 
-module _ (L : Load) where
+module _ (L : LoadRows) where
   -- the ledger of the start
   abbrev pub first : Ledger
   first = ledger_of L (start L)

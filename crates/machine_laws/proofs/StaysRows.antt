@@ -2,18 +2,19 @@
 use Rattle.std.proofs.Common.{◌≡◌, ℕ, zero, suc, ◌==◌, ◌<◌, ◌≤◌, ◌⊎◌, inl, inr, Bool, true, false, List, [], ◌∷◌, ◌++◌, length, Some, slice_get, refl, ap, sym, subst, ◌∙◌, arith}
 use Rattle.std.proofs.lemmas.Bool.{cases_eq}
 use Rattle.std.proofs.lemmas.List.{length-set, length-append}
-use Rattle.rl_defs.specs.declared.values.Owner.{Owner}
-use Rattle.rl_defs.specs.declared.entry.Entry.{Entry}
-use Rattle.rl_defs.specs.declared.entry.Entry.TheVariants as entry
-use Rattle.rl_defs.specs.declared.load.Load.{Load}
+use Rattle.machine_defs.specs.declared.values.Owner.{Owner}
+use Rattle.machine_defs.specs.declared.entry.Entry.{Entry}
+use Rattle.machine_defs.specs.declared.entry.Entry.TheVariants as entry
+use Rattle.rl_defs.specs.declared.load.LoadRows.{LoadRows}
 use Rattle.rl_defs.specs.Domains.{load_row, load_of_target}
-use Rattle.rl_defs.specs.State.{State, Object, Instance, Placement, Root, Hung, row, lives, is_live}
-use Rattle.rl_defs.specs.Loans.{object_of, sweep}
-use Rattle.rl_defs.specs.Wanted.{load_of_instance, instance_load}
-use Rattle.rl_defs.specs.Machine.Objects.{fresh_object, with_cells, with_placement, placed}
-use Rattle.rl_defs.specs.Machine.Seen.{words_in, words, with_instance}
-use Rattle.rl_defs.specs.Machine.CallRows.{instance_for, reloaded}
-use Rattle.rl_defs.specs.Machine.Steps.{Row}
+use Rattle.machine_defs.specs.State.{State, Object, Instance, Placement, Root, Hung, lives, is_live}
+use Rattle.rl_defs.specs.Rows.{row}
+use Rattle.machine_defs.specs.Loans.{object_of, sweep}
+use Rattle.machine_defs.specs.State.{instance_load}
+use Rattle.machine_defs.specs.Objects.{fresh_object, with_cells, with_placement, placed}
+use Rattle.machine_defs.specs.Seen.{words, with_instance}
+use Rattle.machine_defs.specs.CallRows.{reloaded}
+use Rattle.machine_defs.specs.Steps.{Row}
 use Rattle.machine_laws.specs.Ledger.{at}
 use Rattle.machine_laws.specs.Shape.{Laid}
 use Rattle.machine_laws.proofs.Rows.{at_same, at_other}
@@ -21,8 +22,9 @@ use Rattle.machine_laws.proofs.Instances.{row_unchanged, lives_kept, lives_ended
 use Rattle.machine_laws.proofs.Types.{Stays, AnyHow, stays_sweep, stays_without, stays_given, stays_cells, stays_chosen, stays_then, stays_still, new_or_old}
 use Rattle.machine_laws.proofs.Moves.{IsNew, IsWrite, IsHang, Moves, row_moves}
 use Rattle.machine_laws.proofs.LaidRows.{laid_moves, laid_row}
+use Rattle.machine_laws.proofs.Parts.{load_of_instance, words_in, instance_for}
 
--- what may be said of an object before and behind a row of this entry: it stays so, is a root of any owner, and in some rows gets other cells or
+-- what may be said of an object before and after a row of this entry: it stays so, is a root of any owner, and in some rows gets other cells or
 -- hangs somewhere
 pub record Carries (e : Entry) (P : Object → Object → Type 0) : Type 0 where
   pub same : (x : Object) → P x x
@@ -32,10 +34,10 @@ pub record Carries (e : Entry) (P : Object → Object → Type 0) : Type 0 where
   pub hung : IsHang e → (x : Object) (parent place : ℕ) → P x (with_placement (Hung parent place) x)
 
 -- objects stay where the state is laid out, and it stays so
-abbrev pub StaysThere : Load → (Object → Object → Type 0) → State → State → Type 0
+abbrev pub StaysThere : LoadRows → (Object → Object → Type 0) → State → State → Type 0
 StaysThere L P s z = Laid L s → Laid L z × Stays P s z
 
-there_moves : (L : Load) (e : Entry) (P : Object → Object → Type 0) → Carries e P → (IsNew e → ⊥) → Moves L e (StaysThere L P)
+there_moves : (L : LoadRows) (e : Entry) (P : Object → Object → Type 0) → Carries e P → (IsNew e → ⊥) → Moves L e (StaysThere L P)
 there_moves L e P c old = record {
   still = λ s laid. (laid, stays_still P c.same s);
   behind = λ s m z first second laid. (let a = first laid in let b = second a.0 in (b.0, stays_then P c.behind s m z a.1 b.1));
@@ -59,21 +61,21 @@ there_moves L e P c old = record {
     placed_as : (s : State) (o : ℕ) (p : Placement) → ((x : Object) → P x (with_placement p x)) → Stays P s (placed o p s)
     placed_as s o p alike q y is = stays_chosen P c.same s (λ x. x.number == o) (with_placement p) (λ x. refl) (λ x. refl) alike q y is
 
-pub stays_as : (L : Load) (s : State) (e : Entry) (made : State) (P : Object → Object → Type 0) → Carries e P → Laid L s → (IsNew e → ⊥) → Row L s e made → Stays P s made
+pub stays_as : (L : LoadRows) (s : State) (e : Entry) (made : State) (P : Object → Object → Type 0) → Carries e P → Laid L s → (IsNew e → ⊥) → Row L s e made → Stays P s made
 stays_as L s e made P c laid old makes = (row_moves L (StaysThere L P) e (there_moves L e P c old) s made makes laid).1
 
 -- a row that makes no object leaves those that were there
 carries_any : (e : Entry) → Carries e AnyHow
 carries_any e = record { same = λ x. tt; behind = λ x y z p q. tt; rooted = λ x w. tt; written = λ writes x change. tt; hung = λ hangs x parent place. tt }
 
-pub stays_row : (L : Load) (s : State) (e : Entry) (made : State) → Laid L s → (IsNew e → ⊥) → Row L s e made → Stays AnyHow s made
+pub stays_row : (L : LoadRows) (s : State) (e : Entry) (made : State) → Laid L s → (IsNew e → ⊥) → Row L s e made → Stays AnyHow s made
 stays_row L s e made laid old makes = stays_as L s e made AnyHow (carries_any e) laid old makes
 
-pub stays_swept : (L : Load) (s : State) (e : Entry) (made : State) → Laid L s → (IsNew e → ⊥) → Row L s e made → Stays AnyHow s (sweep made)
+pub stays_swept : (L : LoadRows) (s : State) (e : Entry) (made : State) → Laid L s → (IsNew e → ⊥) → Row L s e made → Stays AnyHow s (sweep made)
 stays_swept L s e made laid old makes = stays_then AnyHow (λ x y w p q. tt) s made (sweep made) (stays_row L s e made laid old makes) (stays_sweep AnyHow (λ x. tt) L made (laid_row L s e made laid makes))
 
--- behind a `new` there is what was there, and the new object
-pub new_stays : (L : Load) (s : State) (t : ℕ) (w : Owner) (o ty : ℕ) (values : List ℕ) (made : State) → Row L s (entry.New t w o ty values) made
+-- after a `new` there is what was there, and the new object
+pub new_stays : (L : LoadRows) (s : State) (t : ℕ) (w : Owner) (o ty : ℕ) (values : List ℕ) (made : State) → Row L s (entry.New t w o ty values) made
     → (q : ℕ) (y : Object) → object_of made q ≡ Some y → (object_of s q ≡ Some y) ⊎ ((q ≡ s.next_object) × (y ≡ fresh_object L s.next_object ty w values))
 new_stays L s t w o ty values made r q y is = elim r.makes [
   | inl c ↦ new_or_old L s ty w values q y (ap (λ (z : State). object_of z q) (sym c.does.becomes) ∙ is)
@@ -131,7 +133,7 @@ row_front xs ys (suc j) le = go xs j (omega (arith, le))
     go (x ∷ xs) zero lt = refl
     go (x ∷ xs) (suc j) lt = go xs j (omega (arith, lt))
 
-instances_reload : (L : Load) (s : State) (x i left : ℕ) → SameInstances s (reloaded L x i left s)
+instances_reload : (L : LoadRows) (s : State) (x i left : ℕ) → SameInstances s (reloaded L x i left s)
 instances_reload L s x i left =
     let more : List Instance = instance_for L (load_of_target L x) (load_row L (load_of_target L x)) in
     record {
@@ -141,7 +143,7 @@ instances_reload L s x i left =
       words = λ j le. ap (λ y. length (words_in y)) (row_front s.instances more j le);
     }
 
-instance_moves : (L : Load) (e : Entry) → Moves L e SameInstances
+instance_moves : (L : LoadRows) (e : Entry) → Moves L e SameInstances
 instance_moves L e = record {
   still = λ s. instances_still s s refl;
   behind = λ s m z a b. instances_then s m z a b;
@@ -162,5 +164,5 @@ instance_moves L e = record {
   reload = λ s x left. instances_reload L s x _ left;
 }
 
-pub instances_row : (L : Load) (s : State) (e : Entry) (made : State) → Row L s e made → SameInstances s made
+pub instances_row : (L : LoadRows) (s : State) (e : Entry) (made : State) → Row L s e made → SameInstances s made
 instances_row L s e made makes = row_moves L SameInstances e (instance_moves L e) s made makes

@@ -4,38 +4,42 @@ use Rattle.std.proofs.lemmas.Bool.{cases_Bool, eq-eqb}
 use Rattle.std.proofs.lemmas.Option.{slice_get_within, slice_get-get_or}
 use Rattle.rl_defs.specs.declared.values.Value.{Value}
 use Rattle.rl_defs.specs.declared.values.Value.TheVariants as value
-use Rattle.rl_defs.specs.declared.values.Owner.{Owner}
+use Rattle.machine_defs.specs.declared.values.Owner.{Owner}
 use Rattle.rl_defs.specs.declared.tables.Kind.TheVariants as kind
 use Rattle.rl_defs.specs.declared.code.RegKind.TheVariants as held
-use Rattle.rl_defs.specs.declared.entry.Entry.{Entry}
-use Rattle.rl_defs.specs.declared.entry.Entry.TheVariants as entry
-use Rattle.rl_defs.specs.declared.frame.Action.{Action}
-use Rattle.rl_defs.specs.declared.frame.Action.TheVariants as action
-use Rattle.rl_defs.specs.declared.frame.Answer.TheVariants as answer
-use Rattle.rl_defs.specs.declared.frame.FrameBody.{FrameBody}
-use Rattle.rl_defs.specs.declared.frame.FrameBody.TheVariants as body
-use Rattle.rl_defs.specs.declared.load.Load.{Load}
+use Rattle.machine_defs.specs.declared.entry.Entry.{Entry}
+use Rattle.machine_defs.specs.declared.entry.Entry.TheVariants as entry
+use Rattle.machine_defs.specs.declared.frame.Action.{Action}
+use Rattle.machine_defs.specs.declared.frame.Action.TheVariants as action
+use Rattle.machine_defs.specs.declared.frame.Answer.TheVariants as answer
+use Rattle.machine_defs.specs.declared.frame.FrameBody.{FrameBody}
+use Rattle.machine_defs.specs.declared.frame.FrameBody.TheVariants as body
+use Rattle.rl_defs.specs.declared.load.LoadRows.{LoadRows}
 use Rattle.rl_defs.specs.CodeNames.{cells_of}
 use Rattle.rl_defs.specs.CodeKinds.{hung_at}
-use Rattle.rl_defs.specs.State.{State, Object, Hung, row, is_live}
-use Rattle.rl_defs.specs.Loans.{count}
-use Rattle.rl_defs.specs.Crossing.{has, is_undone}
-use Rattle.rl_defs.specs.Wanted.{load_of_instance, instance_load}
-use Rattle.rl_defs.specs.Texts.{thread_of}
-use Rattle.rl_defs.specs.Machine.Objects.{hangs_in, number_of_object, hung_in, placed}
-use Rattle.rl_defs.specs.Machine.Seen.{domain_of_load, words, slots_in, slots, content, in_slot, with_word}
-use Rattle.rl_defs.specs.Machine.NativeFits.{types_of, is_target}
-use Rattle.rl_defs.specs.Machine.Calling.{is_enabled}
-use Rattle.rl_defs.specs.Machine.CallRows.{Kills, command_done}
-use Rattle.rl_defs.specs.Machine.ObjectRows.{Does, ClientMakes, FrameMakes, ClientDrops, without_name, Shows, Hangs, IsSlot}
-use Rattle.rl_defs.specs.Machine.Steps.{Row as RowOf, Turn, Step}
-use Rattle.rl_defs.specs.Machine.History.{objects_in}
+use Rattle.machine_defs.specs.State.{State, Object, Hung, is_live}
+use Rattle.rl_defs.specs.Rows.{row}
+use Rattle.machine_defs.specs.Loans.{count}
+use Rattle.machine_defs.specs.Arguments.{has}
+use Rattle.machine_defs.specs.Calling.{is_undone}
+use Rattle.machine_defs.specs.State.{instance_load}
+use Rattle.machine_defs.specs.Entries.{thread_of}
+use Rattle.machine_defs.specs.Objects.{hangs_in, hung_in, placed}
+use Rattle.rl_defs.specs.Rows.{domain_of_load}
+use Rattle.machine_defs.specs.Seen.{words, slots, in_slot, with_word}
+use Rattle.machine_defs.specs.Seen.{types_of}
+use Rattle.rl_defs.specs.Rows.{is_target}
+use Rattle.machine_defs.specs.Calling.{is_enabled}
+use Rattle.machine_defs.specs.CallRows.{Kills, command_done}
+use Rattle.machine_defs.specs.ObjectRows.{Does, ClientMakes, FrameMakes, ClientDrops, without_name, Shows, Hangs, IsSlot}
+use Rattle.machine_defs.specs.Steps.{Row as RowOf, Turn, Step}
+use Rattle.machine_defs.specs.Arguments.{objects_in}
+use Rattle.rl_defs.proofs.ValidFacts.{domain_tables, one_deep}
 use Rattle.machine_laws.specs.LedgerOf.{names_held, ledger_of}
 use Rattle.machine_laws.specs.LedgerSound.{Owned}
 use Rattle.machine_laws.specs.LedgerRows.{Exchanged, Row, LedgerStep}
 use Rattle.machine_laws.specs.Shape.{Laid}
-use Rattle.machine_laws.specs.Plans.{Plans}
-use Rattle.machine_laws.specs.Registers.{HasTables}
+use Rattle.machine_laws.specs.Plans.{Plans, HasTables}
 use Rattle.machine_laws.specs.Fitting.{Fitting}
 use Rattle.machine_laws.proofs.Instances.{live_there}
 use Rattle.machine_laws.proofs.Seats.{seats}
@@ -52,9 +56,10 @@ use Rattle.machine_laws.proofs.ReturnSteps.{ClientGets}
 use Rattle.machine_laws.proofs.EndSteps.{returns, unwinds, issues_again, reloads}
 use Rattle.machine_laws.proofs.RefuseSteps.{refuses}
 use Rattle.machine_laws.proofs.LaidRows.{laid_row}
+use Rattle.machine_laws.proofs.Parts.{load_of_instance, number_of_object, slots_in, content}
 
 -- What clients' scripts make sure of, in a state: their calls, what they get, make, drop, show and end.
-pub record ClientFacts (L : Load) (s : State) : Type 0 where
+pub record ClientFacts (L : LoadRows) (s : State) : Type 0 where
   pub calls : ClientsCall L s
   pub gets : ClientGets L s
   pub makes : (t : ℕ) (w : Owner) (o ty : ℕ) (values : List ℕ) (z : State) → o ≡ s.next_object → (m : ClientMakes L s t w o ty values z) → Exchanged (names_held (Some m.does.thread)) [] (o ∷ []) (names_held (Some (command_done L t (value.Obj o ∷ []) m.does.thread)))
@@ -78,7 +83,7 @@ find_not test q (y ∷ xs) x none is yes' = elim (cases_Bool (test y)) [
       ]
 ]
 
-module _ (L : Load) (s : State) (plans : Plans L) (tables : HasTables L.tables) (laid : Laid L s) (owned : Owned L (ledger_of L s)) (fits : Fitting L s) (clients : ClientFacts L s) where
+module _ (L : LoadRows) (s : State) (plans : Plans L) (tables : HasTables L.tables) (laid : Laid L s) (owned : Owned L (ledger_of L s)) (fits : Fitting L s) (clients : ClientFacts L s) where
   -- an empty cell has nothing hung in it
   empty_cell : (o k : ℕ) → hung_in s o k ≡ None → (q : ℕ) → seats s q ≡ Some (Hung o k) → ⊥
   empty_cell o k none q is =
@@ -144,13 +149,13 @@ module _ (L : Load) (s : State) (plans : Plans L) (tables : HasTables L.tables) 
       go : (b : FrameBody Action) → (actor laid ready h.does).body ≡ b → ⊥
       go (body.Code at regs) b =
           let c = acting_code plans tables laid owned fits ready h.does tt load' at regs b in
-          let hung : hung_at L.tables (held.Own ((types_of L s).struct_of o)) k ≡ Some ((types_of L s).struct_of v) = subst (λ tb. hung_at tb (held.Own ((types_of L s).struct_of o)) k ≡ Some ((types_of L s).struct_of v)) (plans.domains.tables (instance_load s (actor laid ready h.does).instance)) c.can.1 in
+          let hung : hung_at L.tables (held.Own ((types_of L s).struct_of o)) k ≡ Some ((types_of L s).struct_of v) = subst (λ tb. hung_at tb (held.Own ((types_of L s).struct_of o)) k ≡ Some ((types_of L s).struct_of v)) (domain_tables L plans (instance_load s (actor laid ready h.does).instance)) c.can.1 in
           let cell = own_cell (slice_get (cells_of L.tables ((types_of L s).struct_of o)) k) hung in
           let x = seated s q (Hung v j) is in
           let place : x.0.placement ≡ Hung v j = (let e = is in let h' : seats s q ≡ Some x.0.placement = ap Rattle.machine_laws.specs.LedgerOf.seat_of x.1 in let h'' : Some x.0.placement ≡ Some (Hung v j) = sym h' ∙ e in cc) in
           let leaf = (fits.objects q x.0 x.1).hung v j place in
           let leaf' : slice_get (cells_of L.tables ((types_of L s).struct_of v)) j ≡ Some (kind.Own x.0.ty) = rw (kinds_by_struct L s v) at leaf in
-          plans.structs.flat ((types_of L s).struct_of o) k ((types_of L s).struct_of v) j x.0.ty cell leaf'
+          one_deep L.tables plans.tables ((types_of L s).struct_of o) k ((types_of L s).struct_of v) j x.0.ty cell leaf'
       go (body.Native held' kept) b = (native_went plans tables laid owned fits ready h.does tt load' held' kept b).1
 
   pub step_row : (e : Entry) (z : State) → is_enabled L s (thread_of e) ≡ true → RowOf L s e z → Row L (ledger_of L s) e (ledger_of L z)

@@ -1,7 +1,7 @@
 -- Sums over the clients, of functions that differ at one.
 use Rattle.std.proofs.Common.{◌≡◌, ℕ, zero, suc, ◌+◌, ◌<◌, ◌≤◌, refl, ap, sym, arith, inl, inr}
 use Rattle.std.proofs.lemmas.Bool.{cases_eq}
-use Rattle.rl_defs.specs.Machine.History.{sum_to}
+use Rattle.machine_laws.specs.Ledger.{sum_to}
 use Rattle.machine_laws.specs.Ledger.{at}
 use Rattle.machine_laws.proofs.Rows.{at_same, at_other}
 

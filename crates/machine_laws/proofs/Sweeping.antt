@@ -1,9 +1,9 @@
 -- A sweep makes a state sound that is sound but for what is doomed.
 use Rattle.std.proofs.Common.{◌≡◌, ℕ, ◌<◌, ◌≤◌, ◌==◌, Bool, true, false, cond, not, List, [], ◌∷◌, Option, Some, None, refl, ap, sym, ◌∙◌, subst, arith, inl, inr, length}
 use Rattle.std.proofs.lemmas.Bool.{cases_eq, cases_Bool, eqb-true, eq-eqb, and_parts, and_from, not-true, both_ways}
-use Rattle.rl_defs.specs.declared.values.Owner.{Owner}
-use Rattle.rl_defs.specs.declared.load.Load.{Load}
-use Rattle.rl_defs.specs.State.{Placement, Root, Hung, lives}
+use Rattle.machine_defs.specs.declared.values.Owner.{Owner}
+use Rattle.rl_defs.specs.declared.load.LoadRows.{LoadRows}
+use Rattle.machine_defs.specs.State.{Placement, Root, Hung, lives}
 use Rattle.machine_laws.specs.Ledger.{same_owner, LedgerFrame, Ledger, alive, lent_in, loans_in, loans, is_lost, is_lost_above, is_doomed_at, is_doomed, sweep}
 use Rattle.machine_laws.specs.LedgerSound.{held_in, is_of, Covered, Owned}
 use Rattle.machine_laws.proofs.Owners.{same_is}
@@ -19,7 +19,7 @@ pub record BeforeSweepIn (n : ℕ) (live : ℕ → Bool) (stack : ℕ → List L
   pub covered : (t : ℕ) → Covered live seat (stack t)
   pub fresh : (o : ℕ) → next ≤ o → seat o ≡ None
 
-abbrev pub BeforeSweep : Load → Ledger → Type 0
+abbrev pub BeforeSweep : LoadRows → Ledger → Type 0
 BeforeSweep L s = BeforeSweepIn (length L.clients) s.live s.stack s.seat s.slots s.next_object
 
 -- a seat after the sweep was the seat before it, and not doomed
@@ -72,7 +72,7 @@ stays_below live loans seat p None flat e = absurd cc
 stays_below live loans seat p (Some (Root w)) flat e = (w, rw e refl)
 stays_below live loans seat p (Some (Hung q j)) flat e = absurd (flat q j refl)
 
-module _ (L : Load) (s : Ledger) (l : BeforeSweep L s) where
+module _ (L : LoadRows) (s : Ledger) (l : BeforeSweep L s) where
   pub swept_owned : Owned L (sweep L s)
   swept_owned = record {
     once = λ w o lives. l.once w o lives ∙ ap (λ b. cond b 1 0) (sym (sweep_is_of s.live (loans L s) s.seat o w (s.seat o) lives));

@@ -2,9 +2,9 @@
 use Rattle.std.proofs.Common.{◌≡◌, ℕ, ◌-◌, cond, not, Option, Some, None, refl, ap, sym, subst, ◌∙◌, arith, inl, inr}
 use mathlib.Core.Path.{fun_ext}
 use Rattle.std.proofs.lemmas.Bool.{cases_Bool}
-use Rattle.rl_defs.specs.declared.load.Load.{Load}
-use Rattle.rl_defs.specs.State.{State, Object, Placement}
-use Rattle.rl_defs.specs.Loans.{object_of, is_doomed as is_doomed_object, sweep as sweep_state, freed as freed_of}
+use Rattle.rl_defs.specs.declared.load.LoadRows.{LoadRows}
+use Rattle.machine_defs.specs.State.{State, Object, Placement}
+use Rattle.machine_defs.specs.Loans.{object_of, is_doomed as is_doomed_object, sweep as sweep_state, freed as freed_of}
 use Rattle.machine_laws.specs.Ledger.{is_doomed, sweep, freed}
 use Rattle.machine_laws.specs.LedgerOf.{seat_of, ledger_of}
 use Rattle.machine_laws.specs.Shape.{Laid}
@@ -12,7 +12,7 @@ use Rattle.machine_laws.proofs.Objects.{found_filter, found_number, if_passes, r
 use Rattle.machine_laws.proofs.FreedNumbers.{passing_all, numbers_passing}
 use Rattle.machine_laws.proofs.Stacks.{doomed_same}
 
-pub laid_sweep : (L : Load) (s : State) → Laid L s → Laid L (sweep_state s)
+pub laid_sweep : (L : LoadRows) (s : State) → Laid L s → Laid L (sweep_state s)
 laid_sweep L s laid = record {
   stacks = laid.stacks;
   threads = laid.threads;
@@ -21,7 +21,7 @@ laid_sweep L s laid = record {
   started = laid.started;
 }
 
-pub seat_swept : (L : Load) (s : State) → Laid L s → (o : ℕ) → seat_of (object_of (sweep_state s) o) ≡ (sweep L (ledger_of L s)).seat o
+pub seat_swept : (L : LoadRows) (s : State) → Laid L s → (o : ℕ) → seat_of (object_of (sweep_state s) o) ≡ (sweep L (ledger_of L s)).seat o
 seat_swept L s laid o = rw (found_filter (λ x. not (is_doomed_object s x)) 0 s.next_object o s.objects laid.objects) (go (object_of s o) refl)
   where
     go : (here : Option Object) → object_of s o ≡ here → seat_of (if_passes (λ x. not (is_doomed_object s x)) here) ≡ cond (is_doomed L (ledger_of L s) o) None (seat_of here)
@@ -35,12 +35,12 @@ seat_swept L s laid o = rw (found_filter (λ x. not (is_doomed_object s x)) 0 s.
           | inr no' ↦ rw (no', d' ∙ no') refl
         ]
 
-pub sweep_same : (L : Load) (s : State) → Laid L s → ledger_of L (sweep_state s) ≡ sweep L (ledger_of L s)
+pub sweep_same : (L : LoadRows) (s : State) → Laid L s → ledger_of L (sweep_state s) ≡ sweep L (ledger_of L s)
 sweep_same L s laid =
     let seats : ◌≡◌ {A = ℕ → Option Placement} (λ o. seat_of (object_of (sweep_state s) o)) ((sweep L (ledger_of L s)).seat) = fun_ext (seat_swept L s laid) in
     ap (λ (seat : ℕ → Option Placement). record (ledger_of L s) { seat = seat }) seats
 
-pub freed_same : (L : Load) (s : State) → Laid L s → freed_of s ≡ freed L (ledger_of L s)
+pub freed_same : (L : LoadRows) (s : State) → Laid L s → freed_of s ≡ freed L (ledger_of L s)
 freed_same L s laid =
     let rises = laid.objects in
     let start = laid.started in

@@ -1,17 +1,22 @@
 -- A sweep keeps what the history tells, and frees what the history says has to go.
-use Rattle.std.proofs.Common.{◌≡◌, ℕ, ◌-◌, ◌<◌, ◌≤◌, ◌==◌, true, false, cond, not, ◌&&◌, ◌||◌, List, [], ◌∷◌, Option, Some, None, refl, ap, sym, ◌∙◌, arith, inl, inr, length}
+use Rattle.machine_defs.specs.Loans.{count}
+use Rattle.machine_laws.proofs.Counting.{count_append}
+use Rattle.std.specs.List.{flat_map, range_with_len}
+use Rattle.std.proofs.Common.{◌≡◌, ℕ, ◌-◌, ◌<◌, ◌≤◌, ◌==◌, true, false, cond, not, ◌&&◌, ◌||◌, List, [], ◌∷◌, Option, Some, None, refl, ap, sym, ◌∙◌, arith, inl, inr, length, filter}
 use Rattle.std.proofs.lemmas.Bool.{cases_eq, cases_Bool, cases_lt}
 use Rattle.std.proofs.Math.Bool.{or-true}
-use Rattle.rl_defs.specs.declared.values.Owner.{Owner}
-use Rattle.rl_defs.specs.declared.values.Owner.TheVariants as owner
-use Rattle.rl_defs.specs.declared.entry.Entry.{Entry}
-use Rattle.rl_defs.specs.declared.load.Load.{Load}
-use Rattle.rl_defs.specs.State.{Placement, Root, Hung}
-use Rattle.rl_defs.specs.Crossing.{has}
-use Rattle.rl_defs.specs.Machine.Steps.{Turn}
-use Rattle.rl_defs.specs.Machine.History.{open_calls, owner_has_ended, objects_made, receiver, lent_in_calls, loans_at, is_gone}
-use Rattle.rl_defs.specs.Machine.OwnedOnce.{IsThere}
-use Rattle.rl_defs.specs.Machine.Caused.{is_to_free, passing}
+use Rattle.machine_defs.specs.declared.values.Owner.{Owner}
+use Rattle.machine_defs.specs.declared.values.Owner.TheVariants as owner
+use Rattle.machine_defs.specs.declared.entry.Entry.{Entry}
+use Rattle.rl_defs.specs.declared.load.LoadRows.{LoadRows}
+use Rattle.machine_defs.specs.State.{Placement, Root, Hung}
+use Rattle.machine_defs.specs.Arguments.{has, lent_of}
+use Rattle.machine_defs.specs.Steps.{Turn}
+use Rattle.machine_defs.specs.History.{open_calls, owner_ended_at, objects_made, receiver_at, loans_at, gone_at, OpenCall}
+use Rattle.machine_laws.proofs.Calls.{lent_in_calls}
+use Rattle.machine_defs.specs.OwnedOnce.{IsThere}
+use Rattle.machine_laws.specs.Ledger.{passing}
+use Rattle.machine_defs.specs.Caused.{is_to_free}
 use Rattle.machine_laws.specs.Ledger.{Ledger, alive, lent_in, loans, is_lost, is_lost_above, is_doomed_at, is_doomed, sweep, freed}
 use Rattle.machine_laws.specs.LedgerSound.{Placed}
 use Rattle.machine_laws.proofs.Sweeping.{BeforeSweep, kept_some}
@@ -19,28 +24,32 @@ use Rattle.machine_laws.proofs.Calls.{CallsAgree, lent_same}
 use Rattle.machine_laws.proofs.CallRows.{turn}
 use Rattle.machine_laws.proofs.HeapRows.{HeapAgrees}
 use Rattle.machine_laws.proofs.CellRows.{CellsAgree}
-use Rattle.machine_laws.proofs.Passing.{passing_same, has_passing_above, has_passing, passing_only}
+use Rattle.machine_laws.proofs.Passing.{passing_listed, count_listed, passing_same, has_passing_above, has_passing, passing_only}
 use Rattle.machine_laws.proofs.Sums.{sum_same}
 
+calls_lend : (o : ℕ) (cs : List OpenCall) → count o (flat_map (λ c. lent_of c.args) cs) ≡ lent_in_calls o cs
+calls_lend o [] = refl
+calls_lend o (c ∷ cs) = let one = count_append o (lent_of c.args) (flat_map (λ (d : OpenCall). lent_of d.args) cs) in let deeper = calls_lend o cs in omega (arith, one, deeper)
+
 -- the loans that the history tells are those of the frames
-pub loans_same : (L : Load) (us : List Turn) (s : Ledger) (o : ℕ) → CallsAgree L us s → Placed L s → loans_at L us o ≡ loans L s o
-loans_same L us s o c p = sum_same (λ t. lent_in_calls o (open_calls us t)) (λ t. lent_in o (s.stack t)) (length L.clients)
-    (λ t pos le. ap (lent_in_calls o) (c.opens t pos le) ∙ lent_same L s.loads s.next_instance s.next_call t o (s.stack t) (p.grounded t pos le))
+pub loans_same : (L : LoadRows) (us : List Turn) (s : Ledger) (o : ℕ) → CallsAgree L us s → Placed L s → loans_at L us o ≡ loans L s o
+loans_same L us s o c p = count_listed o (λ t. flat_map (λ c. lent_of c.args) (open_calls us t)) (length L.clients) ∙ sum_same (λ t. count o (flat_map (λ (c : OpenCall). lent_of c.args) (open_calls us t))) (λ t. lent_in o (s.stack t)) (length L.clients)
+    (λ t pos le. calls_lend o (open_calls us t) ∙ ap (lent_in_calls o) (c.opens t pos le) ∙ lent_same L s.loads s.next_instance s.next_call t o (s.stack t) (p.grounded t pos le))
 
 -- whether an owner of something ended
-pub ended_same : (L : Load) (us : List Turn) (s : Ledger) (w : Owner) → CallsAgree L us s → ((i : ℕ) → w ≡ owner.Instance i → (0 < i) × (i < s.next_instance)) → owner_has_ended us w ≡ not (alive s.live w)
+pub ended_same : (L : LoadRows) (us : List Turn) (s : Ledger) (w : Owner) → CallsAgree L us s → ((i : ℕ) → w ≡ owner.Instance i → (0 < i) × (i < s.next_instance)) → owner_ended_at us w ≡ not (alive s.live w)
 ended_same L us s (owner.Client t) c opened = refl
 ended_same L us s (owner.Instance i) c opened = let r = opened i refl in c.ends i r.0 r.1
 
-module _ (L : Load) (us : List Turn) (s : Ledger) (c : CallsAgree L us s) (p : Placed L s) (h : HeapAgrees us s) (l : BeforeSweep L s) where
-  lost_same : (o : ℕ) (w : Owner) → s.seat o ≡ Some (Root w) → (owner_has_ended us (receiver us o) && (loans_at L us o == 0)) ≡ is_lost s.live (loans L s o) w
+module _ (L : LoadRows) (us : List Turn) (s : Ledger) (c : CallsAgree L us s) (p : Placed L s) (h : HeapAgrees us s) (l : BeforeSweep L s) where
+  lost_same : (o : ℕ) (w : Owner) → s.seat o ≡ Some (Root w) → (owner_ended_at us (receiver_at us o) && (loans_at L us o == 0)) ≡ is_lost s.live (loans L s o) w
   lost_same o w is = rw ((h.root o w is).0, loans_same L us s o c p, ended_same L us s w c (λ i e. p.owners o i (is ∙ ap (λ v. Some (Root v)) e))) refl
 
   -- what the history says has to go is doomed
   pub doomed_same : (o : ℕ) → 0 < o → o < s.next_object → is_to_free L us o ≡ is_doomed L s o
   doomed_same o pos lt = go (s.seat o) refl
     where
-      below : (q k : ℕ) → s.seat o ≡ Some (Hung q k) → (x : Option Placement) → s.seat q ≡ x → (is_gone us q || (owner_has_ended us (receiver us q) && (loans_at L us q == 0))) ≡ is_lost_above s.live (loans L s) q x
+      below : (q k : ℕ) → s.seat o ≡ Some (Hung q k) → (x : Option Placement) → s.seat q ≡ x → (gone_at us q || (owner_ended_at us (receiver_at us q) && (loans_at L us q == 0))) ≡ is_lost_above s.live (loans L s) q x
       below q k is None there = let m = p.parents o q k is in rw (h.away q m.0 m.1 there) refl
       below q k is (Some (Root w)) there = rw ((h.root q w there).2) (lost_same q w there)
       below q k is (Some (Hung a j)) there = absurd (l.hung o q k a j is there)
@@ -50,13 +59,13 @@ module _ (L : Load) (us : List Turn) (s : Ledger) (c : CallsAgree L us s) (p : P
       go (Some (Root w)) is = let r = h.root o w is in rw (r.2, r.1, r.2) (lost_same o w is)
       go (Some (Hung q k)) is = let r = h.hung o q k is in rw (r.1, r.0) (below q k is (s.seat q) refl)
 
-  pub frees_same : freed L s ≡ passing (is_to_free L us) (objects_made us)
+  pub frees_same : freed L s ≡ filter (is_to_free L us) (range_with_len 1 (objects_made us))
   frees_same =
       let e : s.next_object - 1 ≡ objects_made us = (let a = h.made in omega arith) in
-      ap (passing (is_doomed L s)) e ∙ sym (passing_same (is_to_free L us) (is_doomed L s) (objects_made us) (λ o pos le. doomed_same o pos (let a = h.made in omega arith)))
+      ap (passing (is_doomed L s)) e ∙ sym (passing_same (is_to_free L us) (is_doomed L s) (objects_made us) (λ o pos le. doomed_same o pos (let a = h.made in omega arith))) ∙ passing_listed (is_to_free L us) (objects_made us)
 
 -- the frees of the sweep
-module _ (L : Load) (us : List Turn) (s : Ledger) (e : Entry) (c : CallsAgree L (turn e [] ∷ us) s) (p : Placed L s) (h : HeapAgrees (turn e [] ∷ us) s) (k : CellsAgree (turn e [] ∷ us) s) (l : BeforeSweep L s) where
+module _ (L : LoadRows) (us : List Turn) (s : Ledger) (e : Entry) (c : CallsAgree L (turn e [] ∷ us) s) (p : Placed L s) (h : HeapAgrees (turn e [] ∷ us) s) (k : CellsAgree (turn e [] ∷ us) s) (l : BeforeSweep L s) where
   pub swept_calls : (frees : List ℕ) → CallsAgree L (turn e frees ∷ us) (sweep L s)
   swept_calls frees = record { opens = c.opens; ends = c.ends; never = c.never; currents = c.currents; calls = c.calls; instances = c.instances; reloads = c.reloads }
 
@@ -75,7 +84,7 @@ module _ (L : Load) (us : List Turn) (s : Ledger) (e : Entry) (c : CallsAgree L 
     some_object = p.some_object;
   }
 
-  gone_now : (o : ℕ) → has (freed L s) o ≡ false → is_gone (turn e (freed L s) ∷ us) o ≡ is_gone (turn e [] ∷ us) o
+  gone_now : (o : ℕ) → has (freed L s) o ≡ false → gone_at (turn e (freed L s) ∷ us) o ≡ gone_at (turn e [] ∷ us) o
   gone_now o is = rw is refl
 
   in_heap : (o : ℕ) (x : Placement) → s.seat o ≡ Some x → (0 < o) × (o ≤ s.next_object - 1)
@@ -96,7 +105,7 @@ module _ (L : Load) (us : List Turn) (s : Ledger) (e : Entry) (c : CallsAgree L 
     unborn = λ o high. (let r = h.unborn o high in (r.0, gone_now o (has_passing_above (is_doomed L s) (s.next_object - 1) o (let a = p.some_object in omega arith)) ∙ r.1));
   }
     where
-      went : (o : ℕ) → 0 < o → o < s.next_object → (x : Option Placement) → s.seat o ≡ x → cond (is_doomed L s o) None (s.seat o) ≡ None → is_gone (turn e (freed L s) ∷ us) o ≡ true
+      went : (o : ℕ) → 0 < o → o < s.next_object → (x : Option Placement) → s.seat o ≡ x → cond (is_doomed L s o) None (s.seat o) ≡ None → gone_at (turn e (freed L s) ∷ us) o ≡ true
       went o pos lt None there is = rw (h.away o pos lt there) (or-true (has (freed L s) o))
       went o pos lt (Some x) there is = elim (cases_Bool (is_doomed L s o)) [
         | inl d ↦ let e' : has (freed L s) o ≡ true = freed_doomed o x there ∙ d in rw e' refl
@@ -124,7 +133,7 @@ module _ (L : Load) (us : List Turn) (s : Ledger) (e : Entry) (c : CallsAgree L 
       let r = passing_only (is_doomed L s) (s.next_object - 1) o is in
       record { some = r.0; made = (let a = h.made in let b = r.1 in omega arith); stays = was (s.seat o) refl r.2 }
     where
-      was : (x : Option Placement) → s.seat o ≡ x → is_doomed_at s.live (loans L s) s.seat o x ≡ true → is_gone (turn e [] ∷ us) o ≡ false
+      was : (x : Option Placement) → s.seat o ≡ x → is_doomed_at s.live (loans L s) s.seat o x ≡ true → gone_at (turn e [] ∷ us) o ≡ false
       was None there doomed = absurd cc
       was (Some (Root w)) there doomed = (h.root o w there).2
       was (Some (Hung q j)) there doomed = (h.hung o q j there).1

@@ -3,18 +3,20 @@ use Rattle.std.proofs.Common.{◌≡◌, ℕ, zero, suc, ◌+◌, ◌<◌, ◌�
 use Rattle.std.specs.Prelude.{All}
 use Rattle.std.proofs.lemmas.Bool.{cases_lt}
 use Rattle.std.proofs.lemmas.Option.{get_or_from_slice_get}
-use Rattle.rl_defs.specs.declared.load.Load.{Load}
-use Rattle.rl_defs.specs.Run.{AllDone}
-use Rattle.rl_defs.specs.State.{State, Thread, row}
-use Rattle.rl_defs.specs.Machine.Seen.{words, words_in, slots, slots_in, in_slot, content}
-use Rattle.rl_defs.specs.Machine.ObjectRows.{IsSlot}
-use Rattle.rl_defs.specs.Machine.Steps.{Turn}
-use Rattle.rl_defs.specs.Machine.History.{word_at, slot_at}
-use Rattle.rl_defs.specs.Machine.Untouched.{AreContents}
+use Rattle.rl_defs.specs.declared.load.LoadRows.{LoadRows}
+use Rattle.machine_defs.specs.Runs.{AllDone}
+use Rattle.machine_defs.specs.State.{State, Thread}
+use Rattle.rl_defs.specs.Rows.{row}
+use Rattle.machine_defs.specs.Seen.{words, slots, in_slot}
+use Rattle.machine_defs.specs.ObjectRows.{IsSlot}
+use Rattle.machine_defs.specs.Steps.{Turn}
+use Rattle.machine_defs.specs.History.{word_at, slot_at}
+use Rattle.machine_defs.specs.Untouched.{AreContents}
 use Rattle.machine_laws.specs.LedgerOf.{is_done, ledger_of}
 use Rattle.machine_laws.specs.Shape.{Laid}
 use Rattle.machine_laws.proofs.Rows.{row_within}
 use Rattle.machine_laws.proofs.Contents.{ContentsAgree}
+use Rattle.machine_laws.proofs.Parts.{words_in, slots_in, content}
 
 -- past its end a list has no row
 pub row_past : {A : Type 0} (xs : List A) (i : ℕ) → length xs + 1 ≤ i → row xs i ≡ None
@@ -28,7 +30,7 @@ no_item : {A : Type 0} (xs : List A) (k : ℕ) → xs ≡ [] → slice_get xs k 
 no_item xs k e = ap (λ ys. slice_get ys k) e
 
 -- words and slots hold what the history tells
-pub contents_told : (L : Load) (us : List Turn) (s : State) → ContentsAgree L us (ledger_of L s) → AreContents L us s
+pub contents_told : (L : LoadRows) (us : List Turn) (s : State) → ContentsAgree L us (ledger_of L s) → AreContents L us s
 contents_told L us s agree = record { words = word_told; slots = slot_told }
   where
     word_told : (i at v : ℕ) → slice_get (words s i) at ≡ Some v → v ≡ word_at us i at
@@ -50,5 +52,5 @@ all_done (x ∷ xs) all (suc zero) pos le = all 0 x (omega arith)
 all_done (x ∷ xs) all (suc (suc t)) pos le = all_done xs (λ k d lt. all (suc k) d (omega (arith, lt))) (suc t) (omega arith) (omega (arith, le))
 
 -- every client of the ledger is done
-pub ledger_done : (L : Load) (s : State) → Laid L s → AllDone s → (t : ℕ) → 0 < t → t ≤ length L.clients → (ledger_of L s).done t ≡ true
+pub ledger_done : (L : LoadRows) (s : State) → Laid L s → AllDone s → (t : ℕ) → 0 < t → t ≤ length L.clients → (ledger_of L s).done t ≡ true
 ledger_done L s laid done t pos le = all_done s.threads done t pos (let e = laid.threads in omega (arith, e, le))

@@ -2,12 +2,13 @@
 use Rattle.std.proofs.Common.{◌≡◌, ℕ, ◌-◌, ◌<◌, ◌≤◌, Bool, true, false, not, List, [], ◌∷◌, length, Option, Some, slice_set, refl, ap, ◌∙◌, arith, inl, inr}
 use mathlib.Core.Path.{fun_ext}
 use Rattle.std.proofs.lemmas.Bool.{cases_eq}
-use Rattle.rl_defs.specs.declared.values.Owner.TheVariants as owner
-use Rattle.rl_defs.specs.declared.load.Load.{Load}
-use Rattle.rl_defs.specs.State.{State, StackFrame, Thread, row, is_live, stack, frames_of}
-use Rattle.rl_defs.specs.Crossing.{is_undone}
-use Rattle.rl_defs.specs.Wanted.{top}
-use Rattle.rl_defs.specs.Machine.Frames.{below_top}
+use Rattle.machine_defs.specs.declared.values.Owner.TheVariants as owner
+use Rattle.rl_defs.specs.declared.load.LoadRows.{LoadRows}
+use Rattle.machine_defs.specs.State.{State, StackFrame, Thread, is_live, stack, frames_of}
+use Rattle.rl_defs.specs.Rows.{row}
+use Rattle.machine_defs.specs.Calling.{is_undone}
+use Rattle.machine_defs.specs.State.{top}
+use Rattle.machine_defs.specs.Frames.{below_top}
 use Rattle.machine_laws.specs.Ledger.{LedgerFrame, at}
 use Rattle.machine_laws.specs.LedgerOf.{frame_entry, entries_of, names_held, is_done, ledger_of}
 use Rattle.machine_laws.specs.LedgerRows.{Runs, IsDead}
@@ -33,17 +34,17 @@ entries_top s t f on_top =
     ap (λ fs. entries t fs (row s.threads t)) split ∙ push
 
 -- the client of a thread
-pub client_within : (L : Load) (s : State) (t : ℕ) (thread : Thread) → Laid L s → row s.threads t ≡ Some thread → (0 < t) × (t ≤ length L.clients)
+pub client_within : (L : LoadRows) (s : State) (t : ℕ) (thread : Thread) → Laid L s → row s.threads t ≡ Some thread → (0 < t) × (t ≤ length L.clients)
 client_within L s t thread laid of = let w = row_within s.threads t thread of in (w.0, (let e = laid.threads in let b = w.1 in omega arith))
 
-pub client_stack : (L : Load) (s : State) (t : ℕ) (thread : Thread) → Laid L s → row s.threads t ≡ Some thread → (0 < t) × (t ≤ length s.stacks)
+pub client_stack : (L : LoadRows) (s : State) (t : ℕ) (thread : Thread) → Laid L s → row s.threads t ≡ Some thread → (0 < t) × (t ≤ length s.stacks)
 client_stack L s t thread laid of = let w = client_within L s t thread laid of in (w.0, (let e = laid.stacks in let b = w.1 in omega (arith, e, b)))
 
 -- stacks, with this stack and thread of a client
 abbrev pub stacks_with : State → ℕ → List StackFrame → Thread → ℕ → List LedgerFrame
 stacks_with s t frames thread u = entries u (frames_of (row (slice_set s.stacks (t - 1) frames) u)) (row (slice_set s.threads (t - 1) thread) u)
 
-pub stacks_at : (L : Load) (s : State) (t : ℕ) (frames : List StackFrame) (thread : Thread) → Laid L s → 0 < t → t ≤ length L.clients
+pub stacks_at : (L : LoadRows) (s : State) (t : ℕ) (frames : List StackFrame) (thread : Thread) → Laid L s → 0 < t → t ≤ length L.clients
     → stacks_with s t frames thread ≡ at t (entries t frames (Some thread)) ((ledger_of L s).stack)
 stacks_at L s t frames thread laid pos le = fun_ext (λ u. each u)
   where
@@ -63,7 +64,7 @@ stacks_at L s t frames thread laid pos le = fun_ext (λ u. each u)
 abbrev pub stacks_with_thread : State → ℕ → Thread → ℕ → List LedgerFrame
 stacks_with_thread s t thread u = entries u (stack s u) (row (slice_set s.threads (t - 1) thread) u)
 
-pub thread_at : (L : Load) (s : State) (t : ℕ) (thread : Thread) → Laid L s → 0 < t → t ≤ length L.clients
+pub thread_at : (L : LoadRows) (s : State) (t : ℕ) (thread : Thread) → Laid L s → 0 < t → t ≤ length L.clients
     → stacks_with_thread s t thread ≡ at t (entries t (stack s t) (Some thread)) ((ledger_of L s).stack)
 thread_at L s t thread laid pos le = fun_ext (λ u. each u)
   where
@@ -80,7 +81,7 @@ thread_at L s t thread laid pos le = fun_ext (λ u. each u)
 abbrev pub stacks_with_frames : State → ℕ → List StackFrame → ℕ → List LedgerFrame
 stacks_with_frames s t frames u = entries u (frames_of (row (slice_set s.stacks (t - 1) frames) u)) (row s.threads u)
 
-pub frames_at : (L : Load) (s : State) (t : ℕ) (frames : List StackFrame) → Laid L s → 0 < t → t ≤ length L.clients
+pub frames_at : (L : LoadRows) (s : State) (t : ℕ) (frames : List StackFrame) → Laid L s → 0 < t → t ≤ length L.clients
     → stacks_with_frames s t frames ≡ at t (entries t frames (row s.threads t)) ((ledger_of L s).stack)
 frames_at L s t frames laid pos le = fun_ext (λ u. each u)
   where
@@ -95,7 +96,7 @@ frames_at L s t frames laid pos le = fun_ext (λ u. each u)
     ]
 
 -- who is done stays the same where the changed thread was and is not done
-pub done_same : (L : Load) (s : State) (t : ℕ) (old new : Thread) → row s.threads t ≡ Some old → new.done ≡ old.done
+pub done_same : (L : LoadRows) (s : State) (t : ℕ) (old new : Thread) → row s.threads t ≡ Some old → new.done ≡ old.done
     → ◌≡◌ {A = ℕ → Bool} (λ u. is_done (row (slice_set s.threads (t - 1) new) u)) (λ u. is_done (row s.threads u))
 done_same L s t old new of same = fun_ext (λ u. each u)
   where
@@ -120,7 +121,7 @@ undone s t thread of is = go thread.done refl
     go false e = e
 
 -- the top frame runs where its instance lives, and is dead where it has ended; with no frame the client itself runs
-pub runs_frame : (L : Load) (s : State) (t : ℕ) (thread : Thread) (f : StackFrame) → Laid L s → row s.threads t ≡ Some thread → is_undone (row s.threads t) ≡ true
+pub runs_frame : (L : LoadRows) (s : State) (t : ℕ) (thread : Thread) (f : StackFrame) → Laid L s → row s.threads t ≡ Some thread → is_undone (row s.threads t) ≡ true
     → top (stack s t) ≡ Some f → is_live s f.instance ≡ true → Runs L (ledger_of L s) t (frame_entry f) (under s t)
 runs_frame L s t thread f laid of is on_top lives =
     let w = client_within L s t thread laid of in
@@ -132,7 +133,7 @@ runs_frame L s t thread f laid of is on_top lives =
       lives = lives;
     }
 
-pub dead_frame : (L : Load) (s : State) (t : ℕ) (thread : Thread) (f : StackFrame) → Laid L s → row s.threads t ≡ Some thread → is_undone (row s.threads t) ≡ true
+pub dead_frame : (L : LoadRows) (s : State) (t : ℕ) (thread : Thread) (f : StackFrame) → Laid L s → row s.threads t ≡ Some thread → is_undone (row s.threads t) ≡ true
     → top (stack s t) ≡ Some f → is_live s f.instance ≡ false → IsDead L (ledger_of L s) t (frame_entry f) (under s t)
 dead_frame L s t thread f laid of is on_top dead =
     let w = client_within L s t thread laid of in
@@ -144,7 +145,7 @@ dead_frame L s t thread f laid of is on_top dead =
       dead = dead;
     }
 
-pub runs_client : (L : Load) (s : State) (t : ℕ) (thread : Thread) → Laid L s → row s.threads t ≡ Some thread → is_undone (row s.threads t) ≡ true
+pub runs_client : (L : LoadRows) (s : State) (t : ℕ) (thread : Thread) → Laid L s → row s.threads t ≡ Some thread → is_undone (row s.threads t) ≡ true
     → stack s t ≡ [] → Runs L (ledger_of L s) t (bottom t (Some thread)) []
 runs_client L s t thread laid of is none =
     let w = client_within L s t thread laid of in

@@ -1,12 +1,13 @@
 -- What a step makes of the stack and the thread of one client. Those of the others stay.
 use Rattle.std.proofs.Common.{◌≡◌, ◌≢◌, ℕ, ◌-◌, ◌<◌, ◌≤◌, Bool, true, false, List, [], ◌∷◌, ◌++◌, length, Option, Some, None, refl, ap, sym, subst, ◌∙◌, arith}
 use Rattle.std.proofs.lemmas.List.{length-set}
-use Rattle.rl_defs.specs.declared.frame.Answer.{Answer}
-use Rattle.rl_defs.specs.declared.load.Load.{Load}
-use Rattle.rl_defs.specs.State.{State, StackFrame, Thread, row, is_live, stack, frames_of, with_stack, with_thread}
-use Rattle.rl_defs.specs.Wanted.{top}
-use Rattle.rl_defs.specs.Step.{after_command}
-use Rattle.rl_defs.specs.Machine.Frames.{below_top, popped, with_top, with_body, results_in, AnswersClient, AnswersFrame, AnswersTop, Replies}
+use Rattle.machine_defs.specs.declared.frame.Answer.{Answer}
+use Rattle.rl_defs.specs.declared.load.LoadRows.{LoadRows}
+use Rattle.machine_defs.specs.State.{State, StackFrame, Thread, is_live, stack, frames_of, with_stack, with_thread}
+use Rattle.rl_defs.specs.Rows.{row}
+use Rattle.machine_defs.specs.State.{top}
+use Rattle.machine_defs.specs.Frames.{after_command}
+use Rattle.machine_defs.specs.Frames.{below_top, popped, with_top, with_body, results_in, AnswersClient, AnswersFrame, AnswersTop, Replies}
 use Rattle.machine_laws.specs.Shape.{Laid}
 use Rattle.machine_laws.proofs.Rows.{row_within, row_set_same, row_set_other}
 use Rattle.machine_laws.proofs.Stacks.{top_none}
@@ -21,7 +22,7 @@ pub record Turned (s z : State) (t : ℕ) (frames : List StackFrame) (new : Thre
   pub other_stacks : (u : ℕ) → u ≢ t → stack z u ≡ stack s u
   pub other_threads : (u : ℕ) → u ≢ t → row z.threads u ≡ row s.threads u
 
-pub turned_start : (L : Load) (s : State) (t : ℕ) (old : Thread) → Laid L s → row s.threads t ≡ Some old → Turned s s t (stack s t) old
+pub turned_start : (L : LoadRows) (s : State) (t : ℕ) (old : Thread) → Laid L s → row s.threads t ≡ Some old → Turned s s t (stack s t) old
 turned_start L s t old laid of =
     let w = row_within s.threads t old of in
     record {
@@ -74,13 +75,13 @@ turned_top s m t frames f thread is = subst (λ fs. Turned s (with_top t f m) t 
 pub turned_popped : (s m : State) (t : ℕ) (frames : List StackFrame) (thread : Thread) → Turned s m t frames thread → Turned s (popped t m) t (below_top frames) thread
 turned_popped s m t frames thread is = subst (λ fs. Turned s (popped t m) t (below_top fs) thread) is.here (turned_stack s m t frames (below_top (stack m t)) thread is)
 
--- Whoever gets the answer of a call that has ended: a client behind its command, a frame that goes on, or a dead one that stays.
-pub data RepliedAs (L : Load) (s z : State) (t : ℕ) (a : Answer) (frames : List StackFrame) (thread : Thread) : Type 0 where
+-- Whoever gets the answer of a call that has ended: a client after its command, a frame that goes on, or a dead one that stays.
+pub data RepliedAs (L : LoadRows) (s z : State) (t : ℕ) (a : Answer) (frames : List StackFrame) (thread : Thread) : Type 0 where
   ToClient : frames ≡ [] → Turned s z t [] (after_command L t thread (results_in a)) → RepliedAs L s z t a frames thread
   ToFrame : (f next : StackFrame) → top frames ≡ Some f → next ≡ with_body f next.body → Turned s z t (below_top frames ++ next ∷ []) thread → RepliedAs L s z t a frames thread
   ToDead : Turned s z t frames thread → RepliedAs L s z t a frames thread
 
-pub replied_as : (L : Load) (s m z : State) (t : ℕ) (a : Answer) (frames : List StackFrame) (thread : Thread) → Turned s m t frames thread → Replies L m t a z → RepliedAs L s z t a frames thread
+pub replied_as : (L : LoadRows) (s m z : State) (t : ℕ) (a : Answer) (frames : List StackFrame) (thread : Thread) → Turned s m t frames thread → Replies L m t a z → RepliedAs L s z t a frames thread
 replied_as L s m z t a frames thread is replies = go (top (stack m t)) refl replies
   where
     client : top (stack m t) ≡ None → AnswersClient L m t a z → RepliedAs L s z t a frames thread

@@ -1,17 +1,19 @@
--- What objects are there, and of which structs, behind each change.
+-- What objects are there, and of which structs, after each change.
 use Rattle.std.proofs.Common.{◌≡◌, ◌≢◌, ℕ, zero, suc, ◌+◌, ◌-◌, ◌<◌, ◌≤◌, ◌==◌, Bool, true, false, cond, if◌then◌else◌, not, List, [], ◌∷◌, ◌++◌, length, map, filter, Option, Some, None, refl, ap, sym, subst, ◌∙◌, arith, inl, inr}
 use Rattle.std.proofs.lemmas.Bool.{cases_Bool, eqb-true}
-use Rattle.rl_defs.specs.declared.values.Owner.{Owner}
-use Rattle.rl_defs.specs.declared.load.Load.{Load}
-use Rattle.rl_defs.specs.State.{State, Object}
-use Rattle.rl_defs.specs.Loans.{object_of, is_doomed, sweep}
-use Rattle.rl_defs.specs.Crossing.{has, owned_by}
-use Rattle.rl_defs.specs.Machine.Objects.{fresh_object, with_new, without, with_cells, with_cells_of}
-use Rattle.rl_defs.specs.Machine.CallRows.{passed_to}
-use Rattle.rl_defs.specs.Machine.NativeFits.{types_of, struct_or_none}
+use Rattle.machine_defs.specs.declared.values.Owner.{Owner}
+use Rattle.rl_defs.specs.declared.load.LoadRows.{LoadRows}
+use Rattle.machine_defs.specs.State.{State, Object}
+use Rattle.machine_defs.specs.Loans.{object_of, is_doomed, sweep}
+use Rattle.machine_defs.specs.Arguments.{has}
+use Rattle.machine_defs.specs.Objects.{owned_by}
+use Rattle.machine_defs.specs.Objects.{fresh_object, with_new, without, with_cells, with_cells_of}
+use Rattle.machine_defs.specs.CallRows.{passed_to}
+use Rattle.machine_defs.specs.Seen.{types_of}
 use Rattle.machine_laws.specs.Shape.{Laid}
 use Rattle.machine_laws.proofs.Objects.{found, found_filter, found_map, found_append, if_passes, changed, or_else}
 use Rattle.machine_laws.proofs.Seats.{IsIn}
+use Rattle.machine_laws.proofs.Parts.{struct_or_none}
 
 -- each object that is there was there before, of the same struct, and as far as P says the same
 pub record Was (P : Object → Object → Type 0) (s : State) (o : ℕ) (y : Object) : Type 0 where
@@ -30,12 +32,12 @@ AnyHow x y = Unit {0}
 abbrev pub Unchanged : Object → Object → Type 0
 Unchanged x y = x ≡ y
 
-pub structs_same : (L : Load) (P : Object → Object → Type 0) (s z : State) (o : ℕ) → Stays P s z → IsIn z o → (types_of L z).struct_of o ≡ (types_of L s).struct_of o
+pub structs_same : (L : LoadRows) (P : Object → Object → Type 0) (s z : State) (o : ℕ) → Stays P s z → IsIn z o → (types_of L z).struct_of o ≡ (types_of L s).struct_of o
 structs_same L P s z o stays there =
     let was = stays o there.0 there.1 in
     ap (struct_or_none L) there.1 ∙ sym was.ty ∙ sym (ap (struct_or_none L) was.here)
 
-pub stays_filter : (P : Object → Object → Type 0) → ((x : Object) → P x x) → (L : Load) (s : State) (test : Object → Bool) → Laid L s → (o : ℕ) (y : Object) → found o (filter test s.objects) ≡ Some y → Was P s o y
+pub stays_filter : (P : Object → Object → Type 0) → ((x : Object) → P x x) → (L : LoadRows) (s : State) (test : Object → Bool) → Laid L s → (o : ℕ) (y : Object) → found o (filter test s.objects) ≡ Some y → Was P s o y
 stays_filter P same L s test laid o y is = go (object_of s o) refl
   where
     known : if_passes test (found o s.objects) ≡ Some y
@@ -63,10 +65,10 @@ stays_map P s g number ty alike o y is = go (object_of s o) refl
         let eq : g x ≡ y = cc in
         record { x = x; here = e; ty = sym (ty x) ∙ ap (λ (z : Object). z.ty) eq; alike = subst (P x) eq (alike x) }
 
-pub stays_sweep : (P : Object → Object → Type 0) → ((x : Object) → P x x) → (L : Load) (s : State) → Laid L s → Stays P s (sweep s)
+pub stays_sweep : (P : Object → Object → Type 0) → ((x : Object) → P x x) → (L : LoadRows) (s : State) → Laid L s → Stays P s (sweep s)
 stays_sweep P same L s laid o y is = stays_filter P same L s (λ x. not (is_doomed s x)) laid o y is
 
-pub stays_without : (P : Object → Object → Type 0) → ((x : Object) → P x x) → (L : Load) (s : State) (os : List ℕ) → Laid L s → Stays P s (without os s)
+pub stays_without : (P : Object → Object → Type 0) → ((x : Object) → P x x) → (L : LoadRows) (s : State) (os : List ℕ) → Laid L s → Stays P s (without os s)
 stays_without P same L s os laid o y is = stays_filter P same L s (λ x. not (has os x.number)) laid o y is
 
 -- a change that a test chooses
@@ -97,8 +99,8 @@ stays_then P trans s m z first second o y is =
 pub stays_still : (P : Object → Object → Type 0) → ((x : Object) → P x x) → (s : State) → Stays P s s
 stays_still P same s o y is = record { x = y; here = is; ty = refl; alike = same y }
 
--- behind a `new` what is there was there, or is the new object
-pub new_or_old : (L : Load) (s : State) (ty : ℕ) (w : Owner) (values : List ℕ) (o : ℕ) (y : Object) → object_of (with_new L ty w values s) o ≡ Some y
+-- after a `new` what is there was there, or is the new object
+pub new_or_old : (L : LoadRows) (s : State) (ty : ℕ) (w : Owner) (values : List ℕ) (o : ℕ) (y : Object) → object_of (with_new L ty w values s) o ≡ Some y
     → Rattle.std.proofs.Common.◌⊎◌ (object_of s o ≡ Some y) ((o ≡ s.next_object) × (y ≡ fresh_object L s.next_object ty w values))
 new_or_old L s ty w values o y is = go (object_of s o) refl
   where

@@ -1,10 +1,14 @@
 -- States that are the same but for the action that a native body on top chose: the same is freed in both.
 use Rattle.std.proofs.Common.{◌≡◌, ℕ, zero, suc, ◌+◌, ◌-◌, ◌<◌, ◌==◌, Bool, not, ◌&&◌, List, [], ◌∷◌, ◌++◌, map, filter, Option, Some, None, slice_get, slice_set, refl, ap, sym, ◌∙◌, arith}
 use mathlib.Core.Path.{fun_ext}
-use Rattle.rl_defs.specs.declared.values.Owner.{Owner}
-use Rattle.rl_defs.specs.State.{State, StackFrame, Object, Placement, Root, Hung, frames_of, with_stack}
-use Rattle.rl_defs.specs.Loans.{lent_in, lent_in_all, loans, has_ended, object_of, is_lost, is_lost_at, is_lost_parent, is_doomed_at, is_doomed, sweep, freed}
-use Rattle.rl_defs.specs.Machine.Laws.{unchosen_frame, unchosen_top, unchosen}
+use Rattle.machine_defs.specs.declared.values.Owner.{Owner}
+use Rattle.machine_defs.specs.State.{State, StackFrame, Object, Placement, Root, Hung, frames_of, with_stack}
+use Rattle.machine_defs.specs.Loans.{lent_in, lent_in_all, loans, has_ended, object_of, is_lost, is_lost_at, is_lost_parent, is_doomed_at, is_doomed, sweep, freed}
+use Rattle.machine_defs.specs.Laws.{unchosen_body, unchosen_top, unchosen}
+
+-- a frame, but for the action that its native body wants next
+abbrev pub unchosen_frame : StackFrame → StackFrame
+unchosen_frame f = record f { body = unchosen_body f.body }
 
 -- the same but for the choice of client t
 abbrev pub Alike : ℕ → State → State → Type 0
@@ -32,7 +36,7 @@ unchosen_set (suc n) w fs f some =
 lent_unchosen : (o : ℕ) (fs : List StackFrame) → lent_in o (unchosen_top fs) ≡ lent_in o fs
 lent_unchosen o [] = refl
 lent_unchosen o (f ∷ []) = refl
-lent_unchosen o (f ∷ (g ∷ fs)) = ap (λ k. Rattle.rl_defs.specs.Loans.count o f.lent + k) (lent_unchosen o (g ∷ fs))
+lent_unchosen o (f ∷ (g ∷ fs)) = ap (λ k. Rattle.machine_defs.specs.Loans.count o f.lent + k) (lent_unchosen o (g ∷ fs))
 
 lent_set : (o : ℕ) (xs : List (List StackFrame)) (n : ℕ) → lent_in_all o (slice_set xs n (unchosen_top (frames_of (slice_get xs n)))) ≡ lent_in_all o xs
 lent_set o [] n = refl

@@ -4,17 +4,17 @@ use Rattle.std.specs.List.{slice_index_or}
 use Rattle.std.proofs.lemmas.Bool.{cases_Bool, eq-eqb, false_from_ne_true}
 use Rattle.rl_defs.specs.declared.values.Value.{Value}
 use Rattle.rl_defs.specs.declared.values.Value.TheVariants as value
-use Rattle.rl_defs.specs.declared.values.Owner.{Owner}
-use Rattle.rl_defs.specs.declared.values.Owner.TheVariants as owner
-use Rattle.rl_defs.specs.declared.frame.FrameBody.TheVariants as body
-use Rattle.rl_defs.specs.declared.load.Load.{Load}
-use Rattle.rl_defs.specs.State.{State, StackFrame, Root, Hung, is_live, stack}
-use Rattle.rl_defs.specs.Loans.{count}
-use Rattle.rl_defs.specs.Crossing.{has}
-use Rattle.rl_defs.specs.Wanted.{top}
-use Rattle.rl_defs.specs.Machine.Frames.{below_top}
-use Rattle.rl_defs.specs.Machine.Seen.{slots, content, in_slot}
-use Rattle.rl_defs.specs.Machine.Sound.{own_of, own_of_body}
+use Rattle.machine_defs.specs.declared.values.Owner.{Owner}
+use Rattle.machine_defs.specs.declared.values.Owner.TheVariants as owner
+use Rattle.machine_defs.specs.declared.frame.FrameBody.TheVariants as body
+use Rattle.rl_defs.specs.declared.load.LoadRows.{LoadRows}
+use Rattle.machine_defs.specs.State.{State, StackFrame, Root, Hung, is_live, stack}
+use Rattle.machine_defs.specs.Loans.{count}
+use Rattle.machine_defs.specs.Arguments.{has}
+use Rattle.machine_defs.specs.State.{top}
+use Rattle.machine_defs.specs.Frames.{below_top}
+use Rattle.machine_defs.specs.Seen.{slots, in_slot}
+use Rattle.machine_defs.specs.Sound.{own_of, own_of_body}
 use Rattle.machine_laws.specs.LedgerOf.{frame_entry, ledger_of}
 use Rattle.machine_laws.specs.LedgerSound.{in_slots, own_in, Covered, Owned}
 use Rattle.machine_laws.specs.Shape.{Laid}
@@ -28,6 +28,7 @@ use Rattle.machine_laws.proofs.Retyping.{register_has}
 use Rattle.machine_laws.proofs.Sums.{sum_least}
 use Rattle.machine_laws.proofs.Counts.{has_counted}
 use Rattle.machine_laws.proofs.Owners.{is_of_root, is_of_le}
+use Rattle.machine_laws.proofs.Parts.{content}
 
 pub in_slots_some : (contents : List (Option ℕ)) (k o : ℕ) → content (slice_get contents k) ≡ Some o → 0 < in_slots o contents
 in_slots_some [] k o is = absurd cc
@@ -36,7 +37,7 @@ in_slots_some (Some q ∷ contents) zero o is = let e : q ≡ o = cc in rw (eq-e
 in_slots_some (None ∷ contents) (suc k) o is = in_slots_some contents k o is
 in_slots_some (Some q ∷ contents) (suc k) o is = let r = in_slots_some contents k o is in omega (arith, r)
 
-module _ (L : Load) (s : State) (laid : Laid L s) (owned : Owned L (ledger_of L s)) (t : ℕ) (f : StackFrame) (on_top : top (stack s t) ≡ Some f) where
+module _ (L : LoadRows) (s : State) (laid : Laid L s) (owned : Owned L (ledger_of L s)) (t : ℕ) (f : StackFrame) (on_top : top (stack s t) ≡ Some f) where
   abbrev split : stack s t ≡ below_top (stack s t) ++ f ∷ []
   split = top_splits (stack s t) f on_top
 

@@ -4,39 +4,43 @@ use Rattle.std.specs.List.{filter_map}
 use Rattle.rl_defs.specs.declared.code.Instr.{Instr}
 use Rattle.rl_defs.specs.declared.code.Instr.TheVariants as instr
 use Rattle.rl_defs.specs.declared.tables.MethodRow.{MethodRow}
-use Rattle.rl_defs.specs.declared.frame.Action.{Action}
-use Rattle.rl_defs.specs.declared.frame.Action.TheVariants as action
-use Rattle.rl_defs.specs.declared.frame.Answer.{Answer}
-use Rattle.rl_defs.specs.declared.frame.Answer.TheVariants as answer
-use Rattle.rl_defs.specs.declared.frame.FrameBody.{FrameBody}
-use Rattle.rl_defs.specs.declared.frame.FrameBody.TheVariants as body
-use Rattle.rl_defs.specs.declared.load.Load.{Load}
+use Rattle.machine_defs.specs.declared.frame.Action.{Action}
+use Rattle.machine_defs.specs.declared.frame.Action.TheVariants as action
+use Rattle.machine_defs.specs.declared.frame.Answer.{Answer}
+use Rattle.machine_defs.specs.declared.frame.Answer.TheVariants as answer
+use Rattle.machine_defs.specs.declared.frame.FrameBody.{FrameBody}
+use Rattle.machine_defs.specs.declared.frame.FrameBody.TheVariants as body
+use Rattle.rl_defs.specs.declared.load.LoadRows.{LoadRows}
 use Rattle.rl_defs.specs.DomainValue.{Domain}
 use Rattle.rl_defs.specs.Domains.{method_of}
 use Rattle.rl_defs.specs.CodeNames.{results_of, method_at, method_of_function}
 use Rattle.rl_defs.specs.declared.tables.Kind.{Kind}
 use Rattle.rl_defs.specs.CodeKinds.{kinds_at, kind_in, method_called}
-use Rattle.rl_defs.specs.CodeLaws.{StandsAt}
-use Rattle.rl_defs.specs.CodeFits.{Typing, FitsStand, FitsAnswer, are_values, after_answer}
-use Rattle.rl_defs.specs.Instructions.{Stand, Registers}
-use Rattle.rl_defs.specs.State.{State, StackFrame, is_live, stack, frames_of}
-use Rattle.rl_defs.specs.Loans.{count}
-use Rattle.rl_defs.specs.Step.{object_in}
-use Rattle.rl_defs.specs.Wanted.{instance_load}
-use Rattle.rl_defs.specs.Machine.Seen.{domain_of_load, domain_of_instance}
-use Rattle.rl_defs.specs.Machine.NativeFits.{types_of}
-use Rattle.rl_defs.specs.Machine.Frames.{below_top, popped, Answers, AnswersBody, with_body, answered_code, stand_after, code_at, held_after}
-use Rattle.rl_defs.specs.Machine.Sound.{own_of, own_of_body}
+use Rattle.machine_defs.specs.CodeLaws.{StandsAt}
+use Rattle.rl_defs.specs.Registers.{Typing}
+use Rattle.machine_defs.specs.CodeFits.{FitsStand, FitsAnswer, are_values}
+use Rattle.machine_defs.specs.Instructions.{after_answer}
+use Rattle.rl_defs.specs.Registers.{Stand, Registers}
+use Rattle.machine_defs.specs.State.{State, StackFrame, is_live, stack, frames_of}
+use Rattle.machine_defs.specs.Loans.{count}
+use Rattle.machine_defs.specs.Arguments.{object_of_value}
+use Rattle.machine_defs.specs.State.{instance_load}
+use Rattle.rl_defs.specs.Rows.{domain_of_load}
+use Rattle.machine_defs.specs.Seen.{domain_of_instance}
+use Rattle.machine_defs.specs.Seen.{types_of}
+use Rattle.machine_defs.specs.Frames.{below_top, popped, Answers, AnswersBody, with_body, answered_code, code_at, held_after}
+use Rattle.machine_defs.specs.Sound.{own_of, own_of_body}
 use Rattle.machine_laws.specs.LedgerRows.{Exchanged}
 use Rattle.machine_laws.specs.Shape.{Laid}
-use Rattle.machine_laws.specs.Plans.{Plans}
-use Rattle.machine_laws.specs.Registers.{Parted, HasTables, own, received}
+use Rattle.machine_laws.specs.Plans.{Plans, HasTables}
+use Rattle.machine_laws.specs.Registers.{Parted, own, received}
 use Rattle.machine_laws.specs.Fitting.{CodeWaits, BodyFits, Fitting}
 use Rattle.machine_laws.proofs.Rows.{row_set_same}
 use Rattle.machine_laws.proofs.OwnAnswers.{Unlent, waiting_gains}
 use Rattle.machine_laws.proofs.OwnFunctions.{answer_function}
 use Rattle.machine_laws.proofs.CodeDoing.{has_tables, keeps_rules}
 use Rattle.machine_laws.proofs.Counting.{count_append}
+use Rattle.machine_laws.proofs.Parts.{stand_after}
 
 -- what a call is answered in the end
 abbrev pub IsReply : Answer → Type 0
@@ -49,8 +53,8 @@ abbrev pub ReplySuits : Typing → List Kind → Answer → Type 0
 ReplySuits types results (answer.Back values) = are_values types results values ≡ true
 ReplySuits types results a = Unit {0}
 
--- Code that waited, behind its reply.
-pub record CodeReplied (types : Typing) (L : Load) (d : Domain) (g after : StackFrame) (a : Answer) (regs : Registers) : Type 0 where
+-- Code that waited, after its reply.
+pub record CodeReplied (types : Typing) (L : LoadRows) (d : Domain) (g after : StackFrame) (a : Answer) (regs : Registers) : Type 0 where
   pub stand : Stand
   pub after_is : after ≡ with_body g (body.Code stand.at stand.regs)
   pub fits : FitsStand types d stand
@@ -58,7 +62,7 @@ pub record CodeReplied (types : Typing) (L : Load) (d : Domain) (g after : Stack
   pub method : method_at d stand.at ≡ method_of L g.target g.method
   pub gains : (p : ℕ) → count p (own g.lent stand.regs) ≡ count p (own g.lent regs) + count p (received a)
 
-module _ (L : Load) (s z : State) (plans : Plans L) (tables : HasTables L.tables) (fits : Fitting L s) (f g after : StackFrame) (a : Answer) (reply : IsReply a) (lives : is_live s g.instance ≡ true)
+module _ (L : LoadRows) (s z : State) (plans : Plans L) (tables : HasTables L.tables) (fits : Fitting L s) (f g after : StackFrame) (a : Answer) (reply : IsReply a) (lives : is_live s g.instance ≡ true)
     (load' : instance_load z g.instance ≡ instance_load s g.instance) (method : MethodRow) (called : method_of L f.target f.method ≡ Some method) (suits : ReplySuits (types_of L s) method.results a) (unlent : Unlent g.lent (received a)) (gets : Answers L z g a after) where
   abbrev d : Domain
   d = domain_of_instance L s g.instance
@@ -106,7 +110,7 @@ module _ (L : Load) (s z : State) (plans : Plans L) (tables : HasTables L.tables
       rw own' (subst (λ x. count p (held_after x a held) ≡ count p held + count p (received a)) (sym call) (go a reply))
     where
       go : (a : Answer) → IsReply a → count p (held_after (action.Call f.target f.method f.args) a held) ≡ count p held + count p (received a)
-      go (answer.Back values) r = count_append p held (filter_map object_in values)
+      go (answer.Back values) r = count_append p held (filter_map object_of_value values)
       go (answer.Failed why) r = omega arith
       go (answer.Made o) r = absurd r
       go answer.Went r = absurd r
@@ -126,5 +130,5 @@ module _ (L : Load) (s z : State) (plans : Plans L) (tables : HasTables L.tables
           λ p. rw before (let e = native_replied held act is fits''.1 p in omega (arith, e))
 
 -- the stack of a thread whose top frame was popped
-pub popped_stack : (L : Load) (s : State) (t : ℕ) → Laid L s → 0 < t → t ≤ length L.clients → stack (popped t s) t ≡ below_top (stack s t)
+pub popped_stack : (L : LoadRows) (s : State) (t : ℕ) → Laid L s → 0 < t → t ≤ length L.clients → stack (popped t s) t ≡ below_top (stack s t)
 popped_stack L s t laid pos le = ap frames_of (row_set_same s.stacks t (below_top (stack s t)) pos (let e = laid.stacks in omega (arith, e, le)))

@@ -1,19 +1,21 @@
 -- What it tells that a thread wishes to call: the client's command, or the action of its top frame.
 use Rattle.std.proofs.Common.{◌≡◌, ℕ, ◌⊎◌, inl, inr, List, map, Option, Some, None, refl, subst}
-use Rattle.rl_defs.specs.declared.frame.Action.{Action}
-use Rattle.rl_defs.specs.declared.frame.Action.TheVariants as action
-use Rattle.rl_defs.specs.declared.load.Load.{Load}
+use Rattle.machine_defs.specs.declared.frame.Action.{Action}
+use Rattle.machine_defs.specs.declared.frame.Action.TheVariants as action
+use Rattle.rl_defs.specs.declared.load.LoadRows.{LoadRows}
 use Rattle.rl_defs.specs.declared.load.ScriptArg.{ScriptArg}
 use Rattle.rl_defs.specs.declared.load.Command.{Command}
 use Rattle.rl_defs.specs.declared.load.Command.TheVariants as command
-use Rattle.rl_defs.specs.State.{State, StackFrame, Thread, row}
-use Rattle.rl_defs.specs.Wanted.{Want, Commands, Acts, arg_of}
-use Rattle.rl_defs.specs.Crossing.{Wish, client_wish}
-use Rattle.rl_defs.specs.Machine.Wants.{wanted}
-use Rattle.rl_defs.specs.Machine.Calling.{wish, wish_in, wish_of, frame_wish}
+use Rattle.machine_defs.specs.State.{State, StackFrame, Thread}
+use Rattle.rl_defs.specs.Rows.{row}
+use Rattle.machine_defs.specs.Wants.{Want, Commands, Acts, arg_of}
+use Rattle.machine_defs.specs.Calling.{Wish, client_wish}
+use Rattle.machine_defs.specs.Wants.{wanted}
+use Rattle.machine_defs.specs.Calling.{wish, wish_of, frame_wish}
+use Rattle.machine_laws.proofs.Parts.{wish_in}
 
 -- the client's command is the call
-pub record ClientWish (L : Load) (s : State) (t : ℕ) (w : Wish) : Type 0 where
+pub record ClientWish (L : LoadRows) (s : State) (t : ℕ) (w : Wish) : Type 0 where
   pub thread : Thread
   pub of : row s.threads t ≡ Some thread
   pub given : List ScriptArg
@@ -22,7 +24,7 @@ pub record ClientWish (L : Load) (s : State) (t : ℕ) (w : Wish) : Type 0 where
   pub is : w ≡ client_wish L s t thread w.target w.method (map (arg_of thread.names) given)
 
 -- the top frame's action is the call
-pub record FrameWish (L : Load) (s : State) (t : ℕ) (w : Wish) : Type 0 where
+pub record FrameWish (L : LoadRows) (s : State) (t : ℕ) (w : Wish) : Type 0 where
   pub thread : Thread
   pub of : row s.threads t ≡ Some thread
   pub fuel : ℕ
@@ -30,12 +32,12 @@ pub record FrameWish (L : Load) (s : State) (t : ℕ) (w : Wish) : Type 0 where
   pub wants : wanted L s t ≡ Acts (action.Call w.target w.method w.args) fuel frame
   pub is : w ≡ frame_wish L s t thread w.target w.method w.args fuel frame
 
-pub wish_as : (L : Load) (s : State) (t : ℕ) (w : Wish) → wish L s t ≡ Some w → ClientWish L s t w ⊎ FrameWish L s t w
+pub wish_as : (L : LoadRows) (s : State) (t : ℕ) (w : Wish) → wish L s t ≡ Some w → ClientWish L s t w ⊎ FrameWish L s t w
 wish_as L s t w e = by_row (row s.threads t) refl
   where
     by_row : (thread : Option Thread) → row s.threads t ≡ thread → ClientWish L s t w ⊎ FrameWish L s t w
-    by_row None of = absurd (let e' : wish_in L s t None ≡ Some w = rw of at e in cc)
-    by_row (Some thread) of = by_want (wanted L s t) refl (let e' : wish_in L s t (Some thread) ≡ Some w = rw of at e in e')
+    by_row None of = absurd (let e' : wish_in L s t None ≡ Some w = subst (λ o. wish_in L s t o ≡ Some w) of e in cc)
+    by_row (Some thread) of = by_want (wanted L s t) refl (subst (λ o. wish_in L s t o ≡ Some w) of e)
       where
         of_command : (next : Command) → wanted L s t ≡ Commands next → wish_of L s t thread (Commands next) ≡ Some w → ClientWish L s t w ⊎ FrameWish L s t w
         of_command (command.Call x m given names) is h =

@@ -1,15 +1,22 @@
 -- The ledger of a state: who runs, who owns and who has borrowed, as functions of numbers. The laws of ownership are proved over it: it has no
 -- registers, no lines and no script.
-use Rattle.std.specs.Prelude.{ℕ, ◌+◌, ◌-◌, ◌==◌, Bool, true, false, cond, not, ◌&&◌, List, [], ◌∷◌, Option, Some, None}
-use Rattle.rl_defs.specs.declared.values.Arg.{Arg}
-use Rattle.rl_defs.specs.declared.values.Owner.{Owner}
-use Rattle.rl_defs.specs.declared.values.Owner.TheVariants as owner
-use Rattle.rl_defs.specs.declared.load.Load.{Load}
-use Rattle.rl_defs.specs.State.{Placement, Root, Hung}
-use Rattle.rl_defs.specs.Loans.{count}
-use Rattle.rl_defs.specs.Machine.Caused.{passing}
-use Rattle.rl_defs.specs.Machine.History.{sum_to}
+use Rattle.std.specs.Prelude.{ℕ, zero, suc, ◌++◌, if◌then◌else◌, ◌+◌, ◌-◌, ◌==◌, Bool, true, false, cond, not, ◌&&◌, List, [], ◌∷◌, Option, Some, None}
+use Rattle.machine_defs.specs.declared.values.Arg.{Arg}
+use Rattle.machine_defs.specs.declared.values.Owner.{Owner}
+use Rattle.machine_defs.specs.declared.values.Owner.TheVariants as owner
+use Rattle.rl_defs.specs.declared.load.LoadRows.{LoadRows}
+use Rattle.machine_defs.specs.State.{Placement, Root, Hung}
+use Rattle.machine_defs.specs.Loans.{count}
 use Rattle.std.specs.Prelude.{length}
+
+-- a sum over the numbers from 1 to n, and those of them that pass a test, rising
+abbrev pub sum_to : (ℕ → ℕ) → ℕ → ℕ
+sum_to f zero = 0
+sum_to f (suc n) = f (suc n) + sum_to f n
+
+abbrev pub passing : (ℕ → Bool) → ℕ → List ℕ
+passing passes zero = []
+passing passes (suc n) = passing passes n ++ (if passes (suc n) then suc n ∷ [] else [])
 
 abbrev pub same_owner : Owner → Owner → Bool
 same_owner (owner.Client a) (owner.Client b) = a == b
@@ -61,7 +68,7 @@ lent_in o (f ∷ fs) = count o f.lent + lent_in o fs
 abbrev pub loans_in : ℕ → (ℕ → List LedgerFrame) → ℕ → ℕ
 loans_in n stack o = sum_to (λ t. lent_in o (stack t)) n
 
-abbrev pub loans : Load → Ledger → ℕ → ℕ
+abbrev pub loans : LoadRows → Ledger → ℕ → ℕ
 loans L s o = loans_in (length L.clients) s.stack o
 
 -- an owner that has ended, of an object without loans
@@ -79,11 +86,11 @@ is_doomed_at live loans seat o None = false
 is_doomed_at live loans seat o (Some (Root w)) = is_lost live (loans o) w
 is_doomed_at live loans seat o (Some (Hung p k)) = is_lost_above live loans p (seat p)
 
-abbrev pub is_doomed : Load → Ledger → ℕ → Bool
+abbrev pub is_doomed : LoadRows → Ledger → ℕ → Bool
 is_doomed L s o = is_doomed_at s.live (loans L s) s.seat o (s.seat o)
 
-abbrev pub sweep : Load → Ledger → Ledger
+abbrev pub sweep : LoadRows → Ledger → Ledger
 sweep L s = record s { seat = λ o. cond (is_doomed L s o) None (s.seat o) }
 
-abbrev pub freed : Load → Ledger → List ℕ
+abbrev pub freed : LoadRows → Ledger → List ℕ
 freed L s = passing (is_doomed L s) (s.next_object - 1)

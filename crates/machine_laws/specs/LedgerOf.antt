@@ -1,15 +1,16 @@
 -- The ledger of a state of the machine.
 use Rattle.std.specs.Prelude.{ℕ, ◌+◌, Bool, false, if◌then◌else◌, List, [], ◌∷◌, length, Option, Some, None}
 use Rattle.std.specs.List.{slice_index_or, filter_map}
-use Rattle.rl_defs.specs.declared.values.Owner.TheVariants as owner
-use Rattle.rl_defs.specs.declared.load.Load.{Load}
-use Rattle.rl_defs.specs.State.{State, StackFrame, Object, Thread, Placement, row, is_live, current, stack}
-use Rattle.rl_defs.specs.Loans.{object_of}
-use Rattle.rl_defs.specs.Wanted.{instance_load}
-use Rattle.rl_defs.specs.Machine.Seen.{words, slots}
-use Rattle.rl_defs.specs.Machine.NativeFits.{is_target}
-use Rattle.rl_defs.specs.Machine.Calling.{restarts_left}
-use Rattle.rl_defs.specs.Machine.Sound.{own_of, object_held}
+use Rattle.machine_defs.specs.declared.values.Owner.TheVariants as owner
+use Rattle.rl_defs.specs.declared.load.LoadRows.{LoadRows}
+use Rattle.machine_defs.specs.State.{State, StackFrame, Object, Thread, Placement, is_live, current, stack}
+use Rattle.rl_defs.specs.Rows.{row}
+use Rattle.machine_defs.specs.Loans.{object_of}
+use Rattle.machine_defs.specs.State.{instance_load}
+use Rattle.machine_defs.specs.Seen.{words, slots}
+use Rattle.rl_defs.specs.Rows.{is_target}
+use Rattle.machine_defs.specs.Calling.{restarts_left}
+use Rattle.machine_defs.specs.Sound.{own_of, object_held}
 use Rattle.machine_laws.specs.Ledger.{LedgerFrame, Ledger}
 
 abbrev pub frame_entry : StackFrame → LedgerFrame
@@ -36,7 +37,7 @@ abbrev pub is_done : Option Thread → Bool
 is_done None = false
 is_done (Some thread) = thread.done
 
-abbrev pub ledger_of : Load → State → Ledger
+abbrev pub ledger_of : LoadRows → State → Ledger
 ledger_of L s = record {
   loads = instance_load s;
   live = is_live s;

@@ -1,32 +1,32 @@
 -- The rows of the ledger: what each entry asks of it and makes of it.
 use Rattle.std.specs.Prelude.{◌≡◌, ℕ, suc, ◌+◌, ◌<◌, ◌≤◌, true, false, cond, List, [], ◌∷◌, ◌++◌, length, Option, Some, None, slice_get, slice_set, ◌⊎◌}
-use Rattle.rl_defs.specs.declared.values.Arg.{Arg}
-use Rattle.rl_defs.specs.declared.values.Owner.{Owner}
-use Rattle.rl_defs.specs.declared.values.Owner.TheVariants as owner
-use Rattle.rl_defs.specs.declared.values.RpcCode.{RpcCode}
-use Rattle.rl_defs.specs.declared.values.RpcCode.TheVariants as code
-use Rattle.rl_defs.specs.declared.entry.Entry.{Entry}
-use Rattle.rl_defs.specs.declared.entry.Entry.TheVariants as entry
-use Rattle.rl_defs.specs.declared.load.Load.{Load}
-use Rattle.rl_defs.specs.Domains.{load_of_target, is_serial, method_of, slots_of}
-use Rattle.rl_defs.specs.State.{Placement, Root, Hung}
-use Rattle.rl_defs.specs.Loans.{count}
-use Rattle.rl_defs.specs.Crossing.{has, moved_of, lent_of}
-use Rattle.rl_defs.specs.Machine.NativeFits.{is_target}
-use Rattle.rl_defs.specs.Machine.Seen.{domain_of_load}
-use Rattle.rl_defs.specs.Machine.Calling.{is_shadow, is_idempotent}
-use Rattle.rl_defs.specs.Machine.History.{objects_in}
+use Rattle.machine_defs.specs.declared.values.Arg.{Arg}
+use Rattle.machine_defs.specs.declared.values.Owner.{Owner}
+use Rattle.machine_defs.specs.declared.values.Owner.TheVariants as owner
+use Rattle.machine_defs.specs.declared.values.RpcCode.{RpcCode}
+use Rattle.machine_defs.specs.declared.values.RpcCode.TheVariants as code
+use Rattle.machine_defs.specs.declared.entry.Entry.{Entry}
+use Rattle.machine_defs.specs.declared.entry.Entry.TheVariants as entry
+use Rattle.rl_defs.specs.declared.load.LoadRows.{LoadRows}
+use Rattle.rl_defs.specs.Domains.{load_of_target, is_serial, slots_of}
+use Rattle.machine_defs.specs.State.{Placement, Root, Hung}
+use Rattle.machine_defs.specs.Loans.{count}
+use Rattle.machine_defs.specs.Arguments.{has, moved_of, lent_of}
+use Rattle.rl_defs.specs.Rows.{is_target}
+use Rattle.rl_defs.specs.Rows.{domain_of_load}
+use Rattle.machine_defs.specs.Calling.{is_shadow, is_idempotent}
+use Rattle.machine_defs.specs.Arguments.{objects_in}
 use Rattle.machine_laws.specs.Ledger.{LedgerFrame, Ledger, at, alive, sweep, freed}
 
 -- t is a client that isn't done, with f on top of fs, and f's party lives; or has ended
-pub record Runs (L : Load) (s : Ledger) (t : ℕ) (f : LedgerFrame) (fs : List LedgerFrame) : Type 0 where
+pub record Runs (L : LoadRows) (s : Ledger) (t : ℕ) (f : LedgerFrame) (fs : List LedgerFrame) : Type 0 where
   pub some : 0 < t
   pub within : t ≤ length L.clients
   pub undone : s.done t ≡ false
   pub stack : s.stack t ≡ f ∷ fs
   pub lives : alive s.live f.party ≡ true
 
-pub record IsDead (L : Load) (s : Ledger) (t : ℕ) (f : LedgerFrame) (fs : List LedgerFrame) : Type 0 where
+pub record IsDead (L : LoadRows) (s : Ledger) (t : ℕ) (f : LedgerFrame) (fs : List LedgerFrame) : Type 0 where
   pub some : 0 < t
   pub within : t ≤ length L.clients
   pub undone : s.done t ≡ false
@@ -49,16 +49,16 @@ abbrev pub enters : ℕ → List LedgerFrame → Type 0
 enters i fs = (f : LedgerFrame) × (over : List LedgerFrame) × (under : List LedgerFrame) × (fs ≡ over ++ f ∷ under) × (f.party ≡ owner.Instance i)
 
 -- where the instance is serial, no other client has a frame in it
-abbrev pub IsFree : Load → Ledger → ℕ → ℕ → Type 0
+abbrev pub IsFree : LoadRows → Ledger → ℕ → ℕ → Type 0
 IsFree L s t i = is_serial L (s.loads i) ≡ true → (u : ℕ) → 0 < u → u ≤ length L.clients → ((u ≡ t) → ⊥) → enters i (s.stack u) → ⊥
 
 -- the rank stands below each live serial instance of the frames
-abbrev pub IsBelow : Load → Ledger → ℕ → List LedgerFrame → Type 0
+abbrev pub IsBelow : LoadRows → Ledger → ℕ → List LedgerFrame → Type 0
 IsBelow L s rank [] = Unit {0}
 IsBelow L s rank (f ∷ fs) = ((i : ℕ) → f.party ≡ owner.Instance i → s.live i ≡ true → is_serial L (s.loads i) ≡ true → rank < s.loads i) × IsBelow L s rank fs
 
 -- some frame is in a live serial instance whose rank isn't above this one
-pub record IsOutranked (L : Load) (s : Ledger) (wanted : ℕ) (fs : List LedgerFrame) : Type 0 where
+pub record IsOutranked (L : LoadRows) (s : Ledger) (wanted : ℕ) (fs : List LedgerFrame) : Type 0 where
   pub frame : LedgerFrame
   pub over : List LedgerFrame
   pub under : List LedgerFrame
@@ -77,7 +77,7 @@ pub record MayPass (f : LedgerFrame) (args : List Arg) (own : List ℕ) : Type 0
   pub moved : Exchanged f.own (moved_of args) [] own
   pub lent : (o : ℕ) → 0 < count o (lent_of args) → (0 < count o own) ⊎ (0 < count o f.lent)
 
-pub record CallRow (L : Load) (s : Ledger) (t c x i m : ℕ) (args : List Arg) (f : LedgerFrame) (fs : List LedgerFrame) (own : List ℕ) : Type 0 where
+pub record CallRow (L : LoadRows) (s : Ledger) (t c x i m : ℕ) (args : List Arg) (f : LedgerFrame) (fs : List LedgerFrame) (own : List ℕ) : Type 0 where
   pub runs : Runs L s t f fs
   pub number : c ≡ s.next_call
   pub into : i ≡ s.current x
@@ -88,27 +88,27 @@ pub record CallRow (L : Load) (s : Ledger) (t c x i m : ℕ) (args : List Arg) (
   pub passes : MayPass f args own
 
 -- why a call is refused; the frames are those of the stack, the client's own among them
-abbrev pub IsRefused : Load → Ledger → ℕ → RpcCode → List LedgerFrame → Type 0
+abbrev pub IsRefused : LoadRows → Ledger → ℕ → RpcCode → List LedgerFrame → Type 0
 IsRefused L s x code.Gone fs = (is_target L x ≡ true) × (s.live (s.current x) ≡ false) × (s.left x ≡ 0)
 IsRefused L s x code.Deep fs = 31 < length fs
 IsRefused L s x code.Order fs = (is_serial L (load_of_target L x) ≡ true) × IsOutranked L s (load_of_target L x) fs
 IsRefused L s x code.Unwound fs = ⊥
 
 -- the frame's call went through shadow x to an idempotent method
-pub record MayReissue (L : Load) (f : LedgerFrame) (x : ℕ) : Type 0 where
+pub record MayReissue (L : LoadRows) (f : LedgerFrame) (x : ℕ) : Type 0 where
   pub through : f.target ≡ x
   pub shadow : is_shadow L x ≡ true
-  pub idempotent : is_idempotent (method_of L x f.method) ≡ true
+  pub idempotent : is_idempotent L x f.method ≡ true
 
 -- a slot of an instance, by its name
-abbrev pub IsSlot : Load → Ledger → ℕ → ℕ → List ℕ → Type 0
+abbrev pub IsSlot : LoadRows → Ledger → ℕ → ℕ → List ℕ → Type 0
 IsSlot L s i k name = slice_get (slots_of (domain_of_load L (s.loads i)).lines) k ≡ Some name
 
 -- the top frame with other objects of its own
 abbrev pub with_own : ℕ → LedgerFrame → List ℕ → List LedgerFrame → (ℕ → List LedgerFrame) → ℕ → List LedgerFrame
 with_own t f own fs stack = at t (record f { own = own } ∷ fs) stack
 
-abbrev pub Row : Load → Ledger → Entry → Ledger → Type 0
+abbrev pub Row : LoadRows → Ledger → Entry → Ledger → Type 0
 Row L s (entry.Call t c x i m args) z = (f : LedgerFrame) × (fs : List LedgerFrame) × (own : List ℕ) × CallRow L s t c x i m args f fs own
     × (z ≡ record s { stack = at t (callee c x i m args ∷ record f { own = own } ∷ fs) s.stack; seat = give (moved_of args) (owner.Instance i) s.seat; next_call = suc c })
 Row L s (entry.Refuse t c why x m args) z = (f : LedgerFrame) × (fs : List LedgerFrame) × (own : List ℕ) × Runs L s t f fs × (c ≡ s.next_call) × IsRefused L s x why (f ∷ fs) × MayPass f args own
@@ -151,6 +151,6 @@ Row L s (entry.Skip t number) z = (f : LedgerFrame) × Runs L s t f [] × (z ≡
 Row L s (entry.Done t) z = (f : LedgerFrame) × Runs L s t f [] × (z ≡ record s { done = at t true s.done })
 Row L s (entry.Free o) z = ⊥
 
--- a step of the ledger: an entry, and the objects that are freed behind it
-abbrev pub LedgerStep : Load → Ledger → Entry → List ℕ → Ledger → Type 0
+-- a step of the ledger: an entry, and the objects that are freed after it
+abbrev pub LedgerStep : LoadRows → Ledger → Entry → List ℕ → Ledger → Type 0
 LedgerStep L s e frees z = (made : Ledger) × Row L s e made × (frees ≡ freed L made) × (z ≡ sweep L made)

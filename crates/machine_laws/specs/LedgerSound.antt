@@ -1,15 +1,15 @@
 -- What holds of the ledger of every state of every run.
 use Rattle.std.specs.Prelude.{◌≡◌, ℕ, ◌+◌, ◌<◌, ◌≤◌, ◌==◌, Bool, true, false, cond, List, [], ◌∷◌, length, Option, Some, None}
-use Rattle.rl_defs.specs.declared.values.Owner.{Owner}
-use Rattle.rl_defs.specs.declared.values.Owner.TheVariants as owner
-use Rattle.rl_defs.specs.declared.load.Load.{Load}
+use Rattle.machine_defs.specs.declared.values.Owner.{Owner}
+use Rattle.machine_defs.specs.declared.values.Owner.TheVariants as owner
+use Rattle.rl_defs.specs.declared.load.LoadRows.{LoadRows}
 use Rattle.rl_defs.specs.Domains.{load_of_target, slots_of}
-use Rattle.rl_defs.specs.State.{Placement, Root, Hung}
-use Rattle.rl_defs.specs.Loans.{count}
-use Rattle.rl_defs.specs.Crossing.{lent_of}
-use Rattle.rl_defs.specs.Machine.History.{sum_to}
-use Rattle.rl_defs.specs.Machine.NativeFits.{is_target}
-use Rattle.rl_defs.specs.Machine.Seen.{domain_of_load}
+use Rattle.machine_defs.specs.State.{Placement, Root, Hung}
+use Rattle.machine_defs.specs.Loans.{count}
+use Rattle.machine_defs.specs.Arguments.{lent_of}
+use Rattle.machine_laws.specs.Ledger.{sum_to}
+use Rattle.rl_defs.specs.Rows.{is_target}
+use Rattle.rl_defs.specs.Rows.{domain_of_load}
 use Rattle.machine_laws.specs.Ledger.{LedgerFrame, Ledger, same_owner, alive, lent_in, loans_in}
 use Rattle.std.specs.Prelude.{slice_get}
 
@@ -31,7 +31,7 @@ slots_held slots (owner.Instance i) o = in_slots o (slots i)
 abbrev pub held_in : ℕ → (ℕ → List LedgerFrame) → (ℕ → List (Option ℕ)) → Owner → ℕ → ℕ
 held_in n stack slots w o = slots_held slots w o + sum_to (λ t. own_in w o (stack t)) n
 
-abbrev pub held : Load → Ledger → Owner → ℕ → ℕ
+abbrev pub held : LoadRows → Ledger → Owner → ℕ → ℕ
 held L s w o = held_in (length L.clients) s.stack s.slots w o
 
 -- whether this is the place of a root of the owner
@@ -61,18 +61,18 @@ pub record OwnedIn (n : ℕ) (live : ℕ → Bool) (stack : ℕ → List LedgerF
   -- objects from the next number on aren't there
   pub fresh : (o : ℕ) → next ≤ o → seat o ≡ None
 
-abbrev pub Owned : Load → Ledger → Type 0
+abbrev pub Owned : LoadRows → Ledger → Type 0
 Owned L s = OwnedIn (length L.clients) s.live s.stack s.seat s.slots s.next_object
 
 -- the frames of client t: above its own, each is of an opened instance of its target's load, and call numbers fall downwards
-abbrev pub Grounded : Load → (ℕ → ℕ) → ℕ → ℕ → ℕ → List LedgerFrame → Type 0
+abbrev pub Grounded : LoadRows → (ℕ → ℕ) → ℕ → ℕ → ℕ → List LedgerFrame → Type 0
 Grounded L loads next_instance next_call t [] = ⊥
 Grounded L loads next_instance next_call t (f ∷ []) = (f.party ≡ owner.Client t) × (f.lent ≡ []) × (f.call < next_call)
 Grounded L loads next_instance next_call t (f ∷ (g ∷ fs)) =
     ((i : ℕ) × (f.party ≡ owner.Instance i) × (0 < i) × (i < next_instance) × (loads i ≡ load_of_target L f.target))
     × (f.lent ≡ lent_of f.args) × (g.call < f.call) × (f.call < next_call) × Grounded L loads next_instance next_call t (g ∷ fs)
 
-pub record PlacedIn (L : Load) (loads : ℕ → ℕ) (live : ℕ → Bool) (stack : ℕ → List LedgerFrame) (seat : ℕ → Option Placement) (current : ℕ → ℕ) (next_instance next_object next_call : ℕ) : Type 0 where
+pub record PlacedIn (L : LoadRows) (loads : ℕ → ℕ) (live : ℕ → Bool) (stack : ℕ → List LedgerFrame) (seat : ℕ → Option Placement) (current : ℕ → ℕ) (next_instance next_object next_call : ℕ) : Type 0 where
   pub grounded : (t : ℕ) → 0 < t → t ≤ length L.clients → Grounded L loads next_instance next_call t (stack t)
   pub small : (t : ℕ) → 0 < t → t ≤ length L.clients → length (stack t) ≤ 32
   pub current_of : (x : ℕ) → (current x < next_instance) × (loads (current x) ≡ load_of_target L x)
@@ -86,11 +86,11 @@ pub record PlacedIn (L : Load) (loads : ℕ → ℕ) (live : ℕ → Bool) (stac
   pub zero_free : seat 0 ≡ None
   pub some_object : 0 < next_object
 
-abbrev pub Placed : Load → Ledger → Type 0
+abbrev pub Placed : LoadRows → Ledger → Type 0
 Placed L s = PlacedIn L s.loads s.live s.stack s.seat s.current s.next_instance s.next_object s.next_call
 
 -- What the laws ask of a load: its targets are of its loads, and the slots of a domain have names of their own.
-pub record IsPlan (L : Load) : Type 0 where
+pub record IsPlan (L : LoadRows) : Type 0 where
   pub targets : (x : ℕ) → load_of_target L x ≤ length L.loads
   pub some_load : (x : ℕ) → is_target L x ≡ true → 0 < load_of_target L x
   pub slots : (k j l : ℕ) (name : List ℕ) → slice_get (slots_of (domain_of_load L l).lines) j ≡ Some name → slice_get (slots_of (domain_of_load L l).lines) k ≡ Some name → j ≡ k

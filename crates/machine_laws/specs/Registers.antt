@@ -1,25 +1,23 @@
 -- What the registers of a code frame hold of the frame's own.
-use Rattle.std.specs.Prelude.{◌≡◌, ℕ, Bool, true, false, not, List, [], ◌∷◌, ◌&&◌, Some, None}
-use Rattle.std.specs.List.{slice_index_or, list_all}
+use Rattle.std.specs.Prelude.{◌≡◌, ℕ, Bool, true, false, List, [], ◌∷◌, ◌&&◌, Some, None}
+use Rattle.std.specs.List.{slice_index_or}
 use Rattle.rl_defs.specs.declared.values.Value.TheVariants as value
-use Rattle.rl_defs.specs.declared.values.Arg.{Arg}
-use Rattle.rl_defs.specs.declared.values.Arg.TheVariants as arg
+use Rattle.machine_defs.specs.declared.values.Arg.{Arg}
+use Rattle.machine_defs.specs.declared.values.Arg.TheVariants as arg
 use Rattle.rl_defs.specs.declared.code.RegKind.TheVariants as held
 use Rattle.rl_defs.specs.declared.tables.Kind.{Kind}
 use Rattle.rl_defs.specs.declared.tables.Kind.TheVariants as kind
-use Rattle.rl_defs.specs.declared.tables.Tables.{Tables}
-use Rattle.rl_defs.specs.declared.frame.FrameBody.TheVariants as body
-use Rattle.rl_defs.specs.declared.frame.Action.{Action}
-use Rattle.rl_defs.specs.declared.frame.Action.TheVariants as action
-use Rattle.rl_defs.specs.declared.frame.Answer.{Answer}
-use Rattle.rl_defs.specs.declared.frame.Answer.TheVariants as answer
-use Rattle.rl_defs.specs.CodeNames.{method_named, results_of}
-use Rattle.rl_defs.specs.CodeKinds.{Kinds, hung_at}
-use Rattle.rl_defs.specs.CodeFits.{Typing}
-use Rattle.rl_defs.specs.Instructions.{Registers}
-use Rattle.rl_defs.specs.Crossing.{has, moved_of, lent_of}
-use Rattle.rl_defs.specs.Machine.History.{objects_in}
-use Rattle.rl_defs.specs.Machine.Sound.{own_of_body}
+use Rattle.machine_defs.specs.declared.frame.FrameBody.TheVariants as body
+use Rattle.machine_defs.specs.declared.frame.Action.{Action}
+use Rattle.machine_defs.specs.declared.frame.Action.TheVariants as action
+use Rattle.machine_defs.specs.declared.frame.Answer.{Answer}
+use Rattle.machine_defs.specs.declared.frame.Answer.TheVariants as answer
+use Rattle.rl_defs.specs.CodeKinds.{Kinds}
+use Rattle.rl_defs.specs.Registers.{Typing}
+use Rattle.rl_defs.specs.Registers.{Registers}
+use Rattle.machine_defs.specs.Arguments.{has, moved_of, lent_of}
+use Rattle.machine_defs.specs.Arguments.{objects_in}
+use Rattle.machine_defs.specs.Sound.{own_of_body}
 
 -- the objects in registers that weren't lent to their frame
 abbrev pub own : List ℕ → Registers → List ℕ
@@ -30,23 +28,19 @@ pub record Parted (loans : List ℕ) (kinds : Kinds) (regs : Registers) : Type 0
   pub own : (r ty o : ℕ) → slice_index_or kinds r held.Empty ≡ held.Own ty → slice_index_or regs r None ≡ Some (value.Obj o) → has loans o ≡ false
   pub lent : (r ty o : ℕ) → slice_index_or kinds r held.Empty ≡ held.Lent ty → slice_index_or regs r None ≡ Some (value.Obj o) → has loans o ≡ true
 
--- What the rules on interfaces leave in a load's tables: no method lends its result, and no object hangs in one of its own struct.
+-- no method lends its result
 abbrev pub is_lent_kind : Kind → Bool
 is_lent_kind (kind.Lent s) = true
 is_lent_kind _ = false
 
-pub record HasTables (tables : Tables) : Type 0 where
-  pub results : (t : ℕ) (name : List ℕ) → list_all (λ k. not (is_lent_kind k)) (results_of (method_named tables t name)) ≡ true
-  pub cells : (s place : ℕ) → hung_at tables (held.Own s) place ≡ Some s → ⊥
-
 -- an argument is moved where its parameter is an `RRef`, and lent where that is a lent one
-abbrev pub passes_as : Kind → Arg → Bool
-passes_as (kind.Own s) (arg.Lent o) = false
-passes_as (kind.Lent s) (arg.Moved o) = false
-passes_as k a = true
+abbrev pub is_passed_as : Kind → Arg → Bool
+is_passed_as (kind.Own s) (arg.Lent o) = false
+is_passed_as (kind.Lent s) (arg.Moved o) = false
+is_passed_as k a = true
 
 abbrev pub all_pass_as : List Kind → List Arg → Bool
-all_pass_as (k ∷ kinds) (a ∷ args) = passes_as k a && all_pass_as kinds args
+all_pass_as (k ∷ kinds) (a ∷ args) = is_passed_as k a && all_pass_as kinds args
 all_pass_as _ _ = true
 
 -- the objects that an action gives away; those that have to be its frame's own, and stay so; and those that have to be its own or lent to it

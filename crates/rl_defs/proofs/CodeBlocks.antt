@@ -10,27 +10,27 @@ use Rattle.rl_defs.specs.declared.code.DomainLine.{DomainLine}
 use Rattle.rl_defs.specs.declared.code.DomainLine.TheVariants as line
 use Rattle.rl_defs.specs.Parts.{next_open, forms_of}
 use Rattle.rl_defs.specs.Domains.{Lines}
-use Rattle.rl_defs.specs.DomainParts.{Block, Outside, Declares, BehindFunction, InFunction, BehindEnd, unless, ends, next_block, domain_part}
+use Rattle.rl_defs.specs.DomainParts.{DomainBlock, Outside, Declares, BehindFunction, InFunction, BehindEnd, unless, ends, next_block, domain_part}
 use Rattle.rl_defs.specs.CodeNames.{Function, function_at, function_behind, function_behind_form}
 use Rattle.rl_defs.specs.CodeRules.{is_inside}
-use Rattle.rl_defs.specs.CodeFits.{IsOneDomain}
+use Rattle.rl_defs.specs.DomainParts.{IsOneDomain}
 use Rattle.rl_defs.proofs.Places.{drop_suc}
 
-abbrev is_body : Block → Bool
+abbrev is_body : DomainBlock → Bool
 is_body InFunction = true
 is_body BehindEnd = true
 is_body _ = false
 
-abbrev is_open_body : Option Block → Bool
+abbrev is_open_body : Option DomainBlock → Bool
 is_open_body None = false
 is_open_body (Some b) = is_body b
 
-abbrev opened : Option Block → Option (Numbered DomainLine) → Option Block
+abbrev opened : Option DomainBlock → Option (Numbered DomainLine) → Option DomainBlock
 opened b None = b
 opened b (Some l) = next_open domain_part b l.form
 
 -- the block that is open before line n
-abbrev block_at : Lines → ℕ → Option Block
+abbrev block_at : Lines → ℕ → Option DomainBlock
 block_at lines zero = Some Outside
 block_at lines (suc n) = opened (block_at lines n) (slice_get lines n)
 
@@ -64,11 +64,11 @@ stays_none : (lines : Lines) (k n : ℕ) → block_at lines n ≡ None → block
 stays_none lines zero n e = rw zero-add e
 stays_none lines (suc k) n e = rw suc-add (ap (λ b. opened b (slice_get lines (k + n))) (stays_none lines k n e) ∙ opened_none (slice_get lines (k + n)))
 
-is_some_block : (o : Option Block) → (o ≡ None → ⊥) → (b : Block) × (o ≡ Some b)
+is_some_block : (o : Option DomainBlock) → (o ≡ None → ⊥) → (b : DomainBlock) × (o ≡ Some b)
 is_some_block None barred = absurd (barred refl)
 is_some_block (Some b) barred = (b, refl)
 
-some_block : (lines : Lines) (n : ℕ) → IsOneDomain lines → n ≤ length lines → (b : Block) × (block_at lines n ≡ Some b)
+some_block : (lines : Lines) (n : ℕ) → IsOneDomain lines → n ≤ length lines → (b : DomainBlock) × (block_at lines n ≡ Some b)
 some_block lines n one le =
     is_some_block (block_at lines n) (λ e.
     let at : length lines - n + n ≡ length lines = omega arith in
@@ -77,10 +77,10 @@ some_block lines n one le =
     let outside = closes lines one in
     cc)
 
-along : (x b : Block) (i : Bool) → i ≡ is_body x → Some x ≡ Some b → i ≡ is_body b
+along : (x b : DomainBlock) (i : Bool) → i ≡ is_body x → Some x ≡ Some b → i ≡ is_body b
 along x b i e h = let same : x ≡ b = cc in e ∙ ap is_body same
 
-along_unless : (barred : Bool) (x b : Block) (i : Bool) → i ≡ is_body x → unless barred x ≡ Some b → i ≡ is_body b
+along_unless : (barred : Bool) (x b : DomainBlock) (i : Bool) → i ≡ is_body x → unless barred x ≡ Some b → i ≡ is_body b
 along_unless true x b i e h = cc
 along_unless false x b i e h = along x b i e h
 
@@ -88,7 +88,7 @@ body_either : (b : Bool) → true ≡ is_body (if b then BehindEnd else InFuncti
 body_either true = refl
 body_either false = refl
 
-step_form : (n : ℕ) (form : DomainLine) (f : Option Function) (b next : Block) → is_inside f ≡ is_body b → next_block b form ≡ Some next → is_inside (function_behind_form n form f) ≡ is_body next
+step_form : (n : ℕ) (form : DomainLine) (f : Option Function) (b next : DomainBlock) → is_inside f ≡ is_body b → next_block b form ≡ Some next → is_inside (function_behind_form n form f) ≡ is_body next
 step_form n (line.Domain name has) f Outside next e h = along (Declares false false false) next (is_inside f) e h
 step_form n (line.Words k) f (Declares words slots native) next e h = along_unless (words || native) (Declares true slots native) next (is_inside f) e h
 step_form n (line.Slot name ty) f (Declares words slots native) next e h = along_unless native (Declares words true native) next (is_inside f) e h
@@ -105,7 +105,7 @@ step_form n (line.Head label items) f BehindEnd next e h = along InFunction next
 step_form n (line.Code i) f InFunction next e h = along (if ends i then BehindEnd else InFunction) next (is_inside f) (e ∙ body_either (ends i)) h
 step_form n form f b next e h = absurd (cc)
 
-step : (n : ℕ) (o : Option (Numbered DomainLine)) (f : Option Function) (b : Option Block) (next : Block) → is_inside f ≡ is_open_body b → opened b o ≡ Some next → is_inside (function_behind n o f) ≡ is_open_body (opened b o)
+step : (n : ℕ) (o : Option (Numbered DomainLine)) (f : Option Function) (b : Option DomainBlock) (next : DomainBlock) → is_inside f ≡ is_open_body b → opened b o ≡ Some next → is_inside (function_behind n o f) ≡ is_open_body (opened b o)
 step n None f b next e h = e
 step n (Some l) f None next e h = absurd (cc)
 step n (Some l) f (Some b) next e h = step_form n l.form f b next e h ∙ sym (ap is_open_body h)
@@ -135,7 +135,7 @@ stands_inside (line.Code i) = true
 stands_inside line.Close = true
 stands_inside _ = false
 
-inside_form : (form : DomainLine) (b next : Block) → is_body b ≡ true → next_block b form ≡ Some next → stands_inside form ≡ true
+inside_form : (form : DomainLine) (b next : DomainBlock) → is_body b ≡ true → next_block b form ≡ Some next → stands_inside form ≡ true
 inside_form (line.Head label items) b next e h = refl
 inside_form (line.Code i) b next e h = refl
 inside_form line.Close b next e h = refl
@@ -143,16 +143,16 @@ inside_form form InFunction next e h = absurd (cc)
 inside_form form BehindEnd next e h = absurd (cc)
 inside_form form b next e h = absurd (true≢false (sym e))
 
-head_form : (label : List ℕ) (items : List HeadItem) (b next : Block) → next_block b (line.Head label items) ≡ Some next → is_body b ≡ true
+head_form : (label : List ℕ) (items : List HeadItem) (b next : DomainBlock) → next_block b (line.Head label items) ≡ Some next → is_body b ≡ true
 head_form label items InFunction next h = refl
 head_form label items BehindEnd next h = refl
 head_form label items b next h = absurd (cc)
 
 -- a line, with the blocks before it and behind it
 record Opens (lines : Lines) (n : ℕ) (l : Numbered DomainLine) : Type 0 where
-  b : Block
+  b : DomainBlock
   before : block_at lines n ≡ Some b
-  next : Block
+  next : DomainBlock
   behind : next_block b l.form ≡ Some next
 
 opens : (lines : Lines) (n : ℕ) (l : Numbered DomainLine) → IsOneDomain lines → slice_get lines n ≡ Some l → Opens lines n l

@@ -1,9 +1,9 @@
 -- Paths through fields outside RRef.
 use Rattle.std.proofs.Common.{ℕ, List, [], ◌∷◌, ◌++◌, inl, inr}
 use Rattle.rl_defs.specs.Interfaces.{Lines}
-use Rattle.rl_defs.specs.Holding.{HasField, Leads, Reaches, IsEndless, HasRRef, HoldsRRef}
+use Rattle.rl_defs.specs.Holding.{HasField, FieldsLead, Reaches, IsEndless, HasRRef, HoldsRRef}
 
-leads_more : (lines : Lines) (s : ℕ) (us : List ℕ) (t u : ℕ) → Leads lines s us t → HasField lines t u → Leads lines s (us ++ t ∷ []) u
+leads_more : (lines : Lines) (s : ℕ) (us : List ℕ) (t u : ℕ) → FieldsLead lines s us t → HasField lines t u → FieldsLead lines s (us ++ t ∷ []) u
 leads_more lines s [] t u h f = (h, f)
 leads_more lines s (v ∷ us) t u h f = (h.0, leads_more lines v us t u h.1 f)
 
@@ -23,7 +23,7 @@ pub fields_end : (lines : Lines) (s : ℕ) → ((t : ℕ) → HasField lines s t
 fields_end lines s safe (t, ([], f), round) = safe t f (t, round, round)
 fields_end lines s safe (t, (u ∷ us, f), round) = safe u f.0 (t, (us, f.1), round)
 
-no_lead : (lines : Lines) (clean : ℕ → Type 0) → ((s : ℕ) → clean s → HasRRef lines s → ⊥) → ((s t : ℕ) → clean s → HasField lines s t → clean t) → (s : ℕ) (us : List ℕ) (t : ℕ) → clean s → Leads lines s us t → HasRRef lines t → ⊥
+no_lead : (lines : Lines) (clean : ℕ → Type 0) → ((s : ℕ) → clean s → HasRRef lines s → ⊥) → ((s t : ℕ) → clean s → HasField lines s t → clean t) → (s : ℕ) (us : List ℕ) (t : ℕ) → clean s → FieldsLead lines s us t → HasRRef lines t → ⊥
 no_lead lines clean none closed s [] t c f h = none t (closed s t c f) h
 no_lead lines clean none closed s (u ∷ us) t c f h = no_lead lines clean none closed u us t (closed s u c f.0) f.1 h
 

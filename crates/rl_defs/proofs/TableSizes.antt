@@ -7,7 +7,7 @@ use Rattle.rl_defs.specs.declared.tables.MethodRow.{MethodRow}
 use Rattle.rl_defs.specs.declared.tables.TraitRow.{TraitRow}
 use Rattle.rl_defs.specs.declared.tables.Tables.{Tables}
 use Rattle.rl_defs.specs.CodeNames.{cells_of, flat_of, methods_of, rows_of}
-use Rattle.rl_defs.specs.CodeFits.{AreTablesSmall, IsMethodSmall, IsTraitSmall, IsStructSmall}
+use Rattle.rl_defs.specs.TableSizes.{AreTablesSmall, IsMethodSmall, IsTraitSmall, IsStructSmall}
 
 pub all_at : {X : Type 0} (P : X → Type 0) (xs : List X) (i : ℕ) (x : X) → All P xs → slice_get xs i ≡ Some x → P x
 all_at P xs i x all here = subst P (get_or_from_slice_get xs i x x here) (all i x (slice_get_within xs i x here))

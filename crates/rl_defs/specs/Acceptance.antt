@@ -1,5 +1,5 @@
 -- Which bundles are accepted, and the first failing rule of the others.
-use Rattle.std.specs.Prelude.{◌≡◌, ℕ, ◌≤◌, ◌⊎◌, List, length, slice_get, Some}
+use Rattle.std.specs.Prelude.{◌≡◌, ℕ, ◌⊎◌, List, slice_get, Some}
 use Rattle.rl_defs.specs.declared.code.DomainText.{DomainText}
 use Rattle.rl_defs.specs.declared.tables.Tables.{Tables}
 use Rattle.rl_defs.specs.Refusals.{Failing, Nowhere, Then, IsFirst}
@@ -9,13 +9,11 @@ use Rattle.rl_defs.specs.MethodRules.{FailsMethods, TableRows}
 use Rattle.rl_defs.specs.CodeRules.{FailsCode}
 use Rattle.rl_defs.specs.declared.bundle.Bundle.{Bundle}
 use Rattle.rl_defs.specs.BundleParts.{FailsForms, IsBundle}
-use Rattle.rl_defs.specs.BundleNames.{FailsBundleNames}
+use Rattle.rl_defs.specs.NameRules.{FailsBundleNames}
 use Rattle.rl_defs.specs.PlanRules.{FailsPlanRules}
 use Rattle.rl_defs.specs.ScriptRules.{FailsScripts}
-use Rattle.rl_defs.specs.declared.load.Load.{Load}
-use Rattle.rl_defs.specs.CodeFits.{AreTablesSmall}
-use Rattle.rl_defs.specs.BundleOrder.{IsOrdered}
-use Rattle.rl_defs.specs.Standing.{load_of}
+use Rattle.rl_defs.specs.declared.load.LoadRows.{LoadRows}
+use Rattle.rl_defs.specs.LoadOf.{load_of}
 
 -- a later phase speaks only where nothing of an earlier one fails
 abbrev pub Next : Failing → Failing → Failing
@@ -45,28 +43,10 @@ abbrev pub First : List ℕ → ℕ → ℕ → Type 0
 First bytes line rule = IsFirst (Fails bytes) line rule
 
 -- The bytes are accepted: no rule fails at any line, and they stand for this load.
-pub record Accepted (bytes : List ℕ) (L : Load) : Type 0 where
+pub record Accepted (bytes : List ℕ) (L : LoadRows) : Type 0 where
   pub keeps : Nowhere (Fails bytes)
   pub bundle : Bundle
   pub tables : Tables
   pub lines : IsBundle (lines_of bytes) bundle
   pub rows : TableRows bundle.idl tables
   pub stands : L ≡ load_of tables bundle
-
--- A load is valid where it is what some accepted bundle stands for, of no more bytes than a bundle may have.
-pub record Valid (L : Load) : Type 0 where
-  pub bytes : List ℕ
-  pub few : length bytes ≤ 1048576
-  pub accepted : Accepted bytes L
-
--- What is known of a bundle before the rules on its plan are looked at: its order, and that no name is given twice or unknown.
-pub record HasNames (b : Bundle) : Type 0 where
-  pub ordered : IsOrdered b
-  pub names : Nowhere (FailsBundleNames b)
-
--- What is known before the rules on its scripts are looked at: that its plan breaks no rule either, and the rows of its interfaces.
-pub record HasPlan (tables : Tables) (b : Bundle) : Type 0 where
-  pub named : HasNames b
-  pub plan : Nowhere (FailsPlanRules b)
-  pub rows : TableRows b.idl tables
-  pub small : AreTablesSmall tables

@@ -10,7 +10,7 @@ use Rattle.rl_defs.specs.declared.code.DomainText.{DomainText}
 use Rattle.rl_defs.specs.Parts.{block_behind, forms_of}
 use Rattle.rl_defs.specs.IdlParts.{interface_part}
 use Rattle.rl_defs.specs.DomainValue.{Domain}
-use Rattle.rl_defs.specs.CodeFits.{IsOneDomain}
+use Rattle.rl_defs.specs.DomainParts.{IsOneDomain}
 use Rattle.rl_defs.specs.BundleParts.{client_part}
 
 -- the numbers of lines

@@ -6,8 +6,9 @@ use Rattle.rl_defs.specs.declared.code.DomainLine.TheVariants as line
 use Rattle.rl_defs.specs.declared.checked.Way.{Way}
 use Rattle.rl_defs.specs.declared.checked.LineRow.{LineRow}
 use Rattle.rl_defs.specs.DomainValue.{Domain}
-use Rattle.rl_defs.specs.CodeFits.{KeepsRules}
-use Rattle.rl_defs.specs.LineRows.{Names, LeadsHere, LeadsToLabel, entry_at}
+use Rattle.rl_defs.specs.CodeRules.{KeepsRules}
+use Rattle.rl_defs.specs.LineRows.{Names, LeadsHere, LeadsToLabel}
+use Rattle.rl_defs.specs.CodeNames.{entry_at}
 
 -- the registers that are emptied on a way
 abbrev pub emptied_on : List Register → Way → List Register

@@ -1,25 +1,26 @@
 -- The kinds of the registers before a line of domain code.
-use Rattle.std.specs.Prelude.{ℕ, zero, suc, ◌+◌, Bool, true, false, if◌then◌else◌, List, [], ◌∷◌, map, replicate, Option, Some, None, slice_get, slice_set}
+use Rattle.std.specs.Prelude.{ℕ, ◌+◌, [], ◌∷◌, List, replicate, slice_set, fold, Bool, true, false, map, Option, None, Some, slice_get, zero, suc, if◌then◌else◌}
 use Rattle.std.specs.List.{slice_index_or}
-use Rattle.rl_defs.specs.declared.bundle.Numbered.{Numbered}
-use Rattle.rl_defs.specs.declared.code.Register.{Register}
-use Rattle.rl_defs.specs.declared.code.RegKind.{RegKind}
+use Rattle.std.specs.Option.{option_map_or}
 use Rattle.rl_defs.specs.declared.code.RegKind.TheVariants as kind
-use Rattle.rl_defs.specs.declared.code.CallArg.{CallArg}
 use Rattle.rl_defs.specs.declared.code.CallArg.TheVariants as arg
-use Rattle.rl_defs.specs.declared.code.Instr.{Instr}
 use Rattle.rl_defs.specs.declared.code.Instr.TheVariants as instr
-use Rattle.rl_defs.specs.declared.code.HeadKind.{HeadKind}
-use Rattle.rl_defs.specs.declared.code.HeadKind.TheVariants as head
-use Rattle.rl_defs.specs.declared.code.HeadItem.{HeadItem}
-use Rattle.rl_defs.specs.declared.code.DomainLine.{DomainLine}
-use Rattle.rl_defs.specs.declared.code.DomainLine.TheVariants as line
-use Rattle.rl_defs.specs.declared.tables.Kind.{Kind}
 use Rattle.rl_defs.specs.declared.tables.Kind.TheVariants as value
+use Rattle.rl_defs.specs.declared.code.DomainLine.TheVariants as line
+use Rattle.rl_defs.specs.declared.code.HeadKind.TheVariants as head
+use Rattle.rl_defs.specs.declared.code.RegKind.{RegKind}
+use Rattle.rl_defs.specs.declared.code.Register.{Register}
+use Rattle.rl_defs.specs.declared.code.CallArg.{CallArg}
+use Rattle.rl_defs.specs.declared.code.Instr.{Instr}
+use Rattle.rl_defs.specs.declared.tables.Kind.{Kind}
 use Rattle.rl_defs.specs.declared.tables.MethodRow.{MethodRow}
 use Rattle.rl_defs.specs.declared.tables.Tables.{Tables}
+use Rattle.rl_defs.specs.declared.code.HeadKind.{HeadKind}
+use Rattle.rl_defs.specs.declared.code.HeadItem.{HeadItem}
+use Rattle.rl_defs.specs.declared.code.DomainLine.{DomainLine}
+use Rattle.rl_defs.specs.declared.bundle.Numbered.{Numbered}
+use Rattle.rl_defs.specs.CodeNames.{method_named, cells_of, struct_number, results_of, slot_struct, import_trait, trait_number, params_of, domain_trait}
 use Rattle.rl_defs.specs.DomainValue.{Domain}
-use Rattle.rl_defs.specs.CodeNames.{struct_number, trait_number, cells_of, method_named, params_of, results_of, slot_struct, import_trait, domain_trait}
 
 -- what each of the registers `r0` to `r31` is known to hold
 abbrev pub Kinds : Type 0
@@ -62,22 +63,15 @@ read_of_arg (arg.Lent r) = read r Object
 
 -- the registers that an instruction reads
 abbrev pub reads : Instr → List Read
-reads (instr.Const a n) = []
 reads (instr.Copy a b) = read b Copied ∷ []
 reads (instr.Math o a b c) = read b Number ∷ read c Number ∷ []
-reads (instr.Jmp label) = []
 reads (instr.Jz a label) = read a Number ∷ []
 reads (instr.Move a b) = read b Owned ∷ []
 reads (instr.Get a o i) = read o Object ∷ read i Number ∷ []
 reads (instr.Wget a i) = read i Number ∷ []
-reads (instr.Has a slot) = []
-reads (instr.Cap a import) = []
-reads (instr.DevSize a) = []
-reads (instr.New a ty) = []
 reads (instr.Drop a) = read a Owned ∷ []
 reads (instr.Set o i v) = read o Owned ∷ read i Number ∷ read v Number ∷ []
 reads (instr.Wput i v) = read i Number ∷ read v Number ∷ []
-reads (instr.Take a slot) = []
 reads (instr.Put slot a) = read a Owned ∷ []
 reads (instr.DevGet o n) = read o Owned ∷ read n Number ∷ []
 reads (instr.DevPut n o) = read n Number ∷ read o Object ∷ []
@@ -85,15 +79,14 @@ reads (instr.Hang o place v) = read o Owned ∷ read v Owned ∷ []
 reads (instr.Unhang a o place) = read o Owned ∷ []
 reads (instr.Call target method args results code label) = read target Target ∷ map read_of_arg args
 reads (instr.Ret results) = map (λ r. read r Passed) results
-reads instr.Trap = []
+reads _ = []
 
 -- an own object leaves its register
 abbrev pub leave : Kinds → Register → Kinds
 leave kinds r = if is_own (kind_in kinds r) then with_kind kinds r kind.Empty else kinds
 
 abbrev pub leave_all : List Register → Kinds → Kinds
-leave_all [] kinds = kinds
-leave_all (r ∷ rs) kinds = leave_all rs (leave kinds r)
+leave_all rs kinds = fold leave kinds rs
 
 -- the registers of the arguments that aren't lent
 abbrev pub passed : List CallArg → List Register
@@ -145,8 +138,7 @@ hung_at tables (kind.Own s) place = hung_in (slice_get (cells_of tables s) place
 hung_at tables _ place = None
 
 abbrev pub own_kind : Option ℕ → RegKind
-own_kind None = kind.Empty
-own_kind (Some s) = kind.Own s
+own_kind struct = option_map_or (λ s. kind.Own s) struct kind.Empty
 
 -- kinds in these registers, one after the other
 abbrev pub paired : List Kind → List Register → List Write
@@ -172,8 +164,7 @@ writes d kinds (instr.Call target method args results code label) = paired (resu
 writes d kinds _ = []
 
 abbrev pub put_all : List Write → Kinds → Kinds
-put_all [] kinds = kinds
-put_all (w ∷ ws) kinds = put_all ws (with_kind kinds w.register w.kind)
+put_all ws kinds = fold (λ before w. with_kind before w.register w.kind) kinds ws
 
 -- the kinds at the next line
 abbrev pub after : Domain → Kinds → Instr → Kinds
@@ -213,11 +204,21 @@ after_line d kinds (line.Code i) = after d kinds i
 after_line d kinds _ = kinds
 
 abbrev pub after_some : Domain → Kinds → Option (Numbered DomainLine) → Kinds
-after_some d kinds None = kinds
-after_some d kinds (Some l) = after_line d kinds l.form
+after_some d kinds line = option_map_or (λ l. after_line d kinds l.form) line kinds
 
 -- The kinds before a line. Each line has those that the line before it leaves; a function begins with its parameters, and a head makes
 -- exactly the kinds that it lists.
 abbrev pub kinds_at : Domain → ℕ → Kinds
 kinds_at d zero = no_kinds
 kinds_at d (suc n) = after_some d (kinds_at d n) (slice_get d.lines n)
+
+-- the trait of the interface that a register is known to hold
+abbrev pub trait_of_kind : RegKind → ℕ
+trait_of_kind (kind.Cap t) = t
+trait_of_kind _ = 0
+
+-- the struct of an own or lent object
+abbrev pub object_struct : RegKind → Option ℕ
+object_struct (kind.Own s) = Some s
+object_struct (kind.Lent s) = Some s
+object_struct _ = None

@@ -1,18 +1,21 @@
 -- What the names in domain code stand for.
-use Rattle.std.specs.Prelude.{ℕ, zero, suc, ◌+◌, Bool, true, false, List, [], ◌∷◌, map, drop, Option, Some, None, if◌then◌else◌, slice_get, unwrap_or}
+use Rattle.std.specs.Prelude.{ℕ, ◌+◌, [], ◌∷◌, List, map, unwrap_or, Option, Some, None, slice_get, Bool, true, false, zero, suc, drop, if◌then◌else◌}
 use Rattle.std.specs.List.{list_any}
-use Rattle.rl_defs.specs.declared.bundle.Numbered.{Numbered}
-use Rattle.rl_defs.specs.declared.code.DomainLine.{DomainLine}
+use Rattle.std.specs.Option.{option_map, option_map_or, option_and_then}
 use Rattle.rl_defs.specs.declared.code.DomainLine.TheVariants as line
+use Rattle.rl_defs.specs.declared.code.Instr.TheVariants as instr
+use Rattle.rl_defs.specs.declared.tables.Tables.{Tables}
 use Rattle.rl_defs.specs.declared.tables.Kind.{Kind}
 use Rattle.rl_defs.specs.declared.tables.StructRow.{StructRow}
 use Rattle.rl_defs.specs.declared.tables.TraitRow.{TraitRow}
 use Rattle.rl_defs.specs.declared.tables.MethodRow.{MethodRow}
-use Rattle.rl_defs.specs.declared.tables.Tables.{Tables}
-use Rattle.rl_defs.specs.Words.{same_bytes}
-use Rattle.rl_defs.specs.DomainValue.{Domain}
-use Rattle.rl_defs.specs.Domains.{Lines, trait_name}
+use Rattle.rl_defs.specs.declared.code.DomainLine.{DomainLine}
+use Rattle.rl_defs.specs.declared.bundle.Numbered.{Numbered}
+use Rattle.rl_defs.specs.declared.code.Instr.{Instr}
 use Rattle.rl_defs.specs.Interfaces.{place_of}
+use Rattle.rl_defs.specs.Domains.{Lines, trait_name, body_of_function}
+use Rattle.rl_defs.specs.DomainValue.{Domain}
+use Rattle.rl_defs.specs.Words.{same_bytes}
 
 -- the number of the struct, or trait, of this name (0 where there is none, which rule 4 refuses)
 abbrev pub struct_number : Tables → List ℕ → ℕ
@@ -23,16 +26,14 @@ trait_number tables name = unwrap_or (place_of name (map (λ t. t.name) tables.t
 
 -- the cells of a struct
 abbrev pub flat_of : Option StructRow → List Kind
-flat_of None = []
-flat_of (Some s) = s.flat
+flat_of row = option_map_or (λ s. s.flat) row []
 
 abbrev pub cells_of : Tables → ℕ → List Kind
 cells_of tables s = flat_of (slice_get tables.structs s)
 
 -- the methods of a trait
 abbrev pub rows_of : Option TraitRow → List MethodRow
-rows_of None = []
-rows_of (Some t) = t.methods
+rows_of row = option_map_or (λ t. t.methods) row []
 
 abbrev pub methods_of : Tables → ℕ → List MethodRow
 methods_of tables t = rows_of (slice_get tables.traits t)
@@ -42,19 +43,16 @@ abbrev pub method_number : Tables → ℕ → List ℕ → Option ℕ
 method_number tables t name = place_of name (map (λ m. m.name) (methods_of tables t))
 
 abbrev pub row_at : List MethodRow → Option ℕ → Option MethodRow
-row_at methods None = None
-row_at methods (Some m) = slice_get methods m
+row_at methods number = option_and_then (slice_get methods) number
 
 abbrev pub method_named : Tables → ℕ → List ℕ → Option MethodRow
 method_named tables t name = row_at (methods_of tables t) (method_number tables t name)
 
 abbrev pub params_of : Option MethodRow → List Kind
-params_of None = []
-params_of (Some m) = m.params
+params_of row = option_map_or (λ m. m.params) row []
 
 abbrev pub results_of : Option MethodRow → List Kind
-results_of None = []
-results_of (Some m) = m.results
+results_of row = option_map_or (λ m. m.results) row []
 
 -- a name that a domain declares, and the name of its struct or trait
 pub record Declared : Type 0 where
@@ -82,12 +80,10 @@ abbrev pub place_in : List ℕ → List Declared → Option ℕ
 place_in name declared = place_of name (map (λ d. d.name) declared)
 
 abbrev pub type_of : Option Declared → List ℕ
-type_of None = []
-type_of (Some d) = d.ty
+type_of declared = option_map_or (λ d. d.ty) declared []
 
 abbrev pub type_at : List Declared → Option ℕ → List ℕ
-type_at declared None = []
-type_at declared (Some k) = type_of (slice_get declared k)
+type_at declared place = type_of (option_and_then (slice_get declared) place)
 
 -- the struct of a slot, and the trait of an import
 abbrev pub slot_struct : Domain → List ℕ → ℕ
@@ -128,8 +124,7 @@ function_behind_form n line.Close before = None
 function_behind_form n _ before = before
 
 abbrev pub function_behind : ℕ → Option (Numbered DomainLine) → Option Function → Option Function
-function_behind n None before = before
-function_behind n (Some l) before = function_behind_form n l.form before
+function_behind n line before = option_map_or (λ l. function_behind_form n l.form before) line before
 
 abbrev pub function_at : Lines → ℕ → Option Function
 function_at lines zero = None
@@ -137,8 +132,7 @@ function_at lines (suc n) = function_behind n (slice_get lines n) (function_at l
 
 -- the method of a domain that the function at a line is for
 abbrev pub method_of_function : Domain → Option Function → Option MethodRow
-method_of_function d None = None
-method_of_function d (Some f) = method_named d.tables (domain_trait d) f.name
+method_of_function d function = option_and_then (λ f. method_named d.tables (domain_trait d) f.name) function
 
 abbrev pub method_at : Domain → ℕ → Option MethodRow
 method_at d n = method_of_function d (function_at d.lines n)
@@ -154,9 +148,38 @@ find_label label [] place = None
 find_label label (l ∷ ls) place = find_label_from label l.form place (find_label label ls (place + 1))
 
 abbrev pub label_in : Lines → Option Function → List ℕ → Option ℕ
-label_in lines None label = None
-label_in lines (Some f) label = find_label label (drop f.first lines) f.first
+label_in lines function label = option_and_then (λ f. find_label label (drop f.first lines) f.first) function
 
 -- the place of a label of the function that a line stands in
 abbrev pub label_at : Lines → ℕ → List ℕ → Option ℕ
 label_at lines n label = label_in lines (function_at lines n) label
+
+abbrev pub slot_number : Domain → List ℕ → ℕ
+slot_number d slot = unwrap_or (place_in slot (slots d.lines)) 0
+
+abbrev pub import_number : Domain → List ℕ → ℕ
+import_number d import = unwrap_or (place_in import (imports d.lines)) 0
+
+-- the label that an instruction may go to
+abbrev pub label_of : Instr → Option (List ℕ)
+label_of (instr.Jmp label) = Some label
+label_of (instr.Jz a label) = Some label
+label_of (instr.Call target method args results code label) = Some label
+label_of _ = None
+
+abbrev pub place_of_label : Domain → ℕ → Option (List ℕ) → Option ℕ
+place_of_label d n label = option_and_then (label_at d.lines n) label
+
+abbrev pub label_of_form : DomainLine → Option (List ℕ)
+label_of_form (line.Code i) = label_of i
+label_of_form _ = None
+
+abbrev pub label_of_line : Option (Numbered DomainLine) → Option (List ℕ)
+label_of_line line = option_and_then (λ l. label_of_form l.form) line
+
+-- the place of the first line of the function for a method of the domain's trait
+abbrev pub entry_of : Domain → Option MethodRow → Option ℕ
+entry_of d row = option_map (λ m. body_of_function d.lines m.name) row
+
+abbrev pub entry_at : Domain → ℕ → Option ℕ
+entry_at d m = entry_of d (slice_get (methods_of d.tables (domain_trait d)) m)

@@ -1,28 +1,31 @@
 -- Rules 30 to 37: domain code that keeps the ownership rules.
-use Rattle.std.specs.Prelude.{◌≡◌, ℕ, zero, suc, ◌==◌, ◌&&◌, ◌||◌, not, Bool, true, false, List, [], ◌∷◌, length, map, filter, Option, Some, None, slice_get, is_some}
+use Rattle.std.specs.Prelude.{◌≡◌, ℕ, ◌==◌, ◌&&◌, ◌||◌, [], ◌∷◌, ◌<◌, ◌^◌, Bool, true, false, Option, Some, List, is_some, is_none, not, map, slice_get, zero, suc, filter, fold, length}
 use Rattle.std.specs.List.{list_all, list_any}
-use Rattle.rl_defs.specs.declared.bundle.Numbered.{Numbered}
-use Rattle.rl_defs.specs.declared.code.Register.{Register}
-use Rattle.rl_defs.specs.declared.code.RegKind.{RegKind}
+use Rattle.std.specs.Option.{option_map_or, option_and_then}
 use Rattle.rl_defs.specs.declared.code.RegKind.TheVariants as kind
-use Rattle.rl_defs.specs.declared.code.CallArg.{CallArg}
 use Rattle.rl_defs.specs.declared.code.CallArg.TheVariants as arg
-use Rattle.rl_defs.specs.declared.code.Instr.{Instr}
-use Rattle.rl_defs.specs.declared.code.Instr.TheVariants as instr
-use Rattle.rl_defs.specs.declared.code.HeadItem.{HeadItem}
-use Rattle.rl_defs.specs.declared.code.DomainLine.{DomainLine}
-use Rattle.rl_defs.specs.declared.code.DomainLine.TheVariants as line
-use Rattle.rl_defs.specs.declared.tables.Kind.{Kind}
 use Rattle.rl_defs.specs.declared.tables.Kind.TheVariants as value
 use Rattle.rl_defs.specs.declared.tables.Width.TheVariants as width
+use Rattle.rl_defs.specs.declared.code.Instr.TheVariants as instr
+use Rattle.rl_defs.specs.declared.code.DomainLine.TheVariants as line
+use Rattle.rl_defs.specs.declared.code.RegKind.{RegKind}
+use Rattle.rl_defs.specs.declared.code.Instr.{Instr}
+use Rattle.rl_defs.specs.declared.code.CallArg.{CallArg}
+use Rattle.rl_defs.specs.declared.tables.Kind.{Kind}
+use Rattle.rl_defs.specs.declared.code.Register.{Register}
+use Rattle.rl_defs.specs.declared.code.DomainLine.{DomainLine}
+use Rattle.rl_defs.specs.declared.code.HeadItem.{HeadItem}
+use Rattle.rl_defs.specs.declared.bundle.Numbered.{Numbered}
 use Rattle.rl_defs.specs.declared.tables.MethodRow.{MethodRow}
-use Rattle.rl_defs.specs.Interfaces.{place_of}
+use Rattle.rl_defs.specs.CodeKinds.{Need, Number, Copied, Owned, Object, Target, Passed, Kinds, Read, kind_in, reads, as_register, object_struct, method_called, hung_at, is_own, left, leave_all, with_kind, listed, at_label, passed, kinds_at}
 use Rattle.rl_defs.specs.DomainValue.{Domain}
-use Rattle.rl_defs.specs.DomainParts.{ends}
+use Rattle.rl_defs.specs.CodeNames.{cells_of, slot_struct, slots, place_in, params_of, results_of, method_at, place_of_label, label_of, imports, has_words, functions, methods_of, domain_trait, Function, function_at}
+use Rattle.rl_defs.specs.NativeShapes.{has_cells, import_of, are_of_shape, have_one_struct}
+use Rattle.rl_defs.specs.DomainParts.{ends, IsOneDomain}
+use Rattle.rl_defs.specs.Interfaces.{place_of}
 use Rattle.rl_defs.specs.Domains.{is_native}
-use Rattle.rl_defs.specs.CodeNames.{Function, function_at, cells_of, methods_of, slots, imports, place_in, slot_struct, domain_trait, has_words, functions, params_of, results_of, method_at, label_at}
-use Rattle.rl_defs.specs.CodeKinds.{Kinds, kinds_at, Need, Number, Copied, Owned, Object, Target, Passed, Read, reads, kind_in, with_kind, is_own, passed, left, leave_all, as_register, method_called, hung_at, listed, at_label}
-use Rattle.rl_defs.specs.NativeShapes.{has_cells, lacks_import, has_other_shape, has_other_structs}
+use Rattle.rl_defs.specs.Refusals.{Nowhere}
+use Rattle.rl_defs.specs.TableSizes.{AreTablesSmall}
 
 -- whether a kind is what is asked for
 abbrev pub meets : Need → RegKind → Bool
@@ -54,28 +57,21 @@ same_kind (kind.Lent s) (kind.Lent t) = s == t
 same_kind (kind.Cap s) (kind.Cap t) = s == t
 same_kind _ _ = false
 
--- the struct of an own or lent object
-abbrev pub object_struct : RegKind → Option ℕ
-object_struct (kind.Own s) = Some s
-object_struct (kind.Lent s) = Some s
-object_struct _ = None
-
 abbrev pub is_struct : ℕ → Option ℕ → Bool
-is_struct s None = false
-is_struct s (Some t) = t == s
+is_struct s of = option_map_or (λ t. t == s) of false
 
--- an argument is of its parameter's kind; an own object may be lent
-abbrev pub suits : Kinds → Kind → CallArg → Bool
-suits kinds (value.Lent s) (arg.Lent r) = is_struct s (object_struct (kind_in kinds r))
-suits kinds (value.Lent s) (arg.Passed r) = false
-suits kinds k (arg.Passed r) = same_kind (as_register k) (kind_in kinds r)
-suits kinds k (arg.Lent r) = false
+-- an argument passes as a parameter of this kind; an own object may be lent
+abbrev pub passes_as : Kinds → Kind → CallArg → Bool
+passes_as kinds (value.Lent s) (arg.Lent r) = is_struct s (object_struct (kind_in kinds r))
+passes_as kinds (value.Lent s) (arg.Passed r) = false
+passes_as kinds k (arg.Passed r) = same_kind (as_register k) (kind_in kinds r)
+passes_as kinds k (arg.Lent r) = false
 
--- each argument suits the parameter at its place, where there is one
+-- each argument passes_as the parameter at its place, where there is one
 abbrev pub args_suit : Kinds → List Kind → List CallArg → Bool
 args_suit kinds params [] = true
 args_suit kinds [] (a ∷ args) = true
-args_suit kinds (p ∷ params) (a ∷ args) = suits kinds p a && args_suit kinds params args
+args_suit kinds (p ∷ params) (a ∷ args) = passes_as kinds p a && args_suit kinds params args
 
 -- the results of a `ret` are as many as the method's, each of its kind
 abbrev pub results_suit : Kinds → List Kind → List Register → Bool
@@ -85,18 +81,15 @@ results_suit kinds _ _ = false
 
 -- an object with the cells of a block: 64 of u64
 abbrev pub holds_block : Domain → Option ℕ → Bool
-holds_block d None = false
-holds_block d (Some s) = has_cells 64 width.W64 (cells_of d.tables s)
+holds_block d of = option_map_or (λ s. has_cells 64 width.W64 (cells_of d.tables s)) of false
 
 -- the object that is put is of the slot's struct, where the slot is declared
 abbrev pub suits_slot : Domain → Option ℕ → List ℕ → RegKind → Bool
-suits_slot d None slot k = true
-suits_slot d (Some place) slot k = same_kind (kind.Own (slot_struct d slot)) k
+suits_slot d place slot k = is_none place || same_kind (kind.Own (slot_struct d slot)) k
 
 -- the object that is hung is of the cell's struct, where the cell is an `RRef`
 abbrev pub suits_cell : Option ℕ → RegKind → Bool
-suits_cell None k = true
-suits_cell (Some s) k = same_kind (kind.Own s) k
+suits_cell of k = option_map_or (λ s. same_kind (kind.Own s) k) of true
 
 -- the registers are of the structs, parameters or results that the instruction is about
 abbrev pub operands_suit : Domain → ℕ → Kinds → Instr → Bool
@@ -108,12 +101,6 @@ operands_suit d n kinds (instr.Call target method args results code label) = arg
 operands_suit d n kinds (instr.Ret results) = results_suit kinds (results_of (method_at d n)) results
 operands_suit d n kinds _ = true
 
--- the place of `hang` and `unhang` is an `RRef` cell of the object's struct
-abbrev pub names_cell : Domain → Kinds → Instr → Bool
-names_cell d kinds (instr.Hang o place v) = is_some (hung_at d.tables (kind_in kinds o) place)
-names_cell d kinds (instr.Unhang a o place) = is_some (hung_at d.tables (kind_in kinds o) place)
-names_cell d kinds _ = true
-
 -- a register is among others
 abbrev pub is_among : Register → List Register → Bool
 is_among r others = list_any (λ s. s.number == r.number) others
@@ -122,24 +109,21 @@ abbrev pub are_distinct : List Register → Bool
 are_distinct [] = true
 are_distinct (r ∷ rs) = not (is_among r rs) && are_distinct rs
 
--- the result registers of a call, and the two registers of a move, are distinct
-abbrev pub are_apart : Instr → Bool
-are_apart (instr.Move a b) = not (a.number == b.number)
-are_apart (instr.Call target method args results code label) = are_distinct results
-are_apart _ = true
-
--- rule 30, at an instruction: each register has the kind that the instruction asks for; a place that an object hangs in is there; and
--- registers that have to be distinct are
+-- rule 30: each register has the kind that the instruction asks for
 abbrev pub has_kinds : Domain → ℕ → Kinds → DomainLine → Bool
 has_kinds d n kinds (line.Code i) = reads_are_met kinds i && operands_suit d n kinds i
 has_kinds d n kinds _ = true
 
+-- rule 30: the place of `hang` and `unhang` is an `RRef` cell of the object's struct
 abbrev pub has_cell : Domain → Kinds → DomainLine → Bool
-has_cell d kinds (line.Code i) = names_cell d kinds i
+has_cell d kinds (line.Code (instr.Hang o place v)) = is_some (hung_at d.tables (kind_in kinds o) place)
+has_cell d kinds (line.Code (instr.Unhang a o place)) = is_some (hung_at d.tables (kind_in kinds o) place)
 has_cell d kinds _ = true
 
+-- rule 30: the two registers of a move, the results of a call, and the registers that a head lists are distinct
 abbrev pub has_apart : DomainLine → Bool
-has_apart (line.Code i) = are_apart i
+has_apart (line.Code (instr.Move a b)) = not (a.number == b.number)
+has_apart (line.Code (instr.Call target method args results code label)) = are_distinct results
 has_apart (line.Head label items) = are_distinct (map (λ item. item.register) items)
 has_apart _ = true
 
@@ -178,8 +162,7 @@ leaves_nothing kinds _ = true
 
 -- registers without what these hold
 abbrev pub without : List Register → Kinds → Kinds
-without [] kinds = kinds
-without (r ∷ rs) kinds = without rs (with_kind kinds r kind.Empty)
+without rs kinds = fold (λ before r. with_kind before r kind.Empty) kinds rs
 
 -- a head is entered with the kinds that it lists, and with no own object in another register
 abbrev pub enters : Domain → List HeadItem → Kinds → Bool
@@ -192,23 +175,10 @@ enters_form d (line.Head label items) kinds = enters d items kinds
 enters_form d _ kinds = true
 
 abbrev pub enters_line : Domain → Option (Numbered DomainLine) → Kinds → Bool
-enters_line d None kinds = true
-enters_line d (Some l) kinds = enters_form d l.form kinds
+enters_line d line kinds = option_map_or (λ l. enters_form d l.form kinds) line true
 
 abbrev pub enters_at : Domain → Option ℕ → Kinds → Bool
-enters_at d None kinds = true
-enters_at d (Some place) kinds = enters_line d (slice_get d.lines place) kinds
-
--- the label that an instruction may go to
-abbrev pub label_of : Instr → Option (List ℕ)
-label_of (instr.Jmp label) = Some label
-label_of (instr.Jz a label) = Some label
-label_of (instr.Call target method args results code label) = Some label
-label_of _ = None
-
-abbrev pub place_of_label : Domain → ℕ → Option (List ℕ) → Option ℕ
-place_of_label d n None = None
-place_of_label d n (Some label) = label_at d.lines n label
+enters_at d place kinds = enters_line d (option_and_then (slice_get d.lines) place) kinds
 
 -- rule 32: a jump, or the `else` of a call, enters its label's head, where there is one
 abbrev pub enters_label : Domain → ℕ → Kinds → DomainLine → Bool
@@ -221,8 +191,7 @@ goes_on (line.Code i) = not (ends i)
 goes_on _ = true
 
 abbrev pub goes_on_from : Option (Numbered DomainLine) → Bool
-goes_on_from None = false
-goes_on_from (Some l) = goes_on l.form
+goes_on_from line = option_map_or (λ l. goes_on l.form) line false
 
 -- a line is reached from the line before it
 abbrev pub is_reached : Domain → ℕ → Bool
@@ -236,8 +205,7 @@ enters_head d n kinds _ = true
 
 -- rule 33: a jump or an `else` names a label of its function
 abbrev pub has_label : Domain → ℕ → Option (List ℕ) → Bool
-has_label d n None = true
-has_label d n (Some label) = is_some (label_at d.lines n label)
+has_label d n label = is_none label || is_some (place_of_label d n label)
 
 abbrev pub names_label : Domain → ℕ → DomainLine → Bool
 names_label d n (line.Code i) = has_label d n (label_of i)
@@ -280,7 +248,7 @@ has_its_words d _ = true
 
 -- rule 35: a native body has its import
 abbrev pub has_import : Domain → DomainLine → Bool
-has_import d (line.Native body) = not (lacks_import d body)
+has_import d (line.Native body) = is_some (place_in (import_of body) (imports d.lines))
 has_import d _ = true
 
 -- rule 36: a domain without a native body has a function for each method of its trait
@@ -293,8 +261,7 @@ has_functions d _ = true
 
 -- rule 36: the trait of a call's register has the method, which has as many parameters and results
 abbrev pub has_counts : Option MethodRow → List CallArg → List Register → Bool
-has_counts None args results = false
-has_counts (Some m) args results = (length m.params == length args) && (length m.results == length results)
+has_counts row args results = option_map_or (λ m. (length m.params == length args) && (length m.results == length results)) row false
 
 abbrev pub has_method : Domain → Kinds → DomainLine → Bool
 has_method d kinds (line.Code (instr.Call target method args results code label)) = has_counts (method_called d.tables (kind_in kinds target) method) args results
@@ -302,17 +269,16 @@ has_method d kinds _ = true
 
 -- rule 36: the traits of a native body, and of its import, are of its shape
 abbrev pub has_shape : Domain → DomainLine → Bool
-has_shape d (line.Native body) = not (has_other_shape d body)
+has_shape d (line.Native body) = are_of_shape d body
 has_shape d _ = true
 
 -- rule 36: where the traits of a native body and of its import are to have one struct, they have the same
 abbrev pub has_one_struct : Domain → DomainLine → Bool
-has_one_struct d (line.Native body) = not (has_other_structs d body)
+has_one_struct d (line.Native body) = have_one_struct d body
 has_one_struct d _ = true
 
 abbrev pub is_inside : Option Function → Bool
-is_inside None = false
-is_inside (Some f) = true
+is_inside function = is_some function
 
 -- rule 37: control doesn't reach the end of a function
 abbrev pub ends_before : Domain → ℕ → DomainLine → Bool
@@ -356,3 +322,10 @@ pub record FailsCode (d : Domain) (number rule : ℕ) : Type 0 where
   pub form : DomainLine
   pub here : slice_get d.lines place ≡ Some (record { line = number; form = form })
   pub broken : breaks d place form rule ≡ true
+
+-- A domain of fewer than 2^31 lines that keeps rules 30 to 37.
+pub record KeepsRules (d : Domain) : Type 0 where
+  pub short : length d.lines < 2 ^ 31
+  pub small : AreTablesSmall d.tables
+  pub ordered : IsOneDomain d.lines
+  pub rules : Nowhere (FailsCode d)

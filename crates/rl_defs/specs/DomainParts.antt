@@ -1,25 +1,26 @@
 -- The domain part: the order of its lines, and the domains that they are.
-use Rattle.std.specs.Prelude.{◌≡◌, ℕ, Bool, true, false, ◌||◌, List, [], ◌∷◌, Option, Some, None, if◌then◌else◌}
-use Rattle.rl_defs.specs.declared.code.Instr.{Instr}
+use Rattle.std.specs.Prelude.{◌≡◌, ℕ, ◌||◌, [], ◌∷◌, ◌<◌, Bool, Option, Some, None, true, false, List, slice_get, if◌then◌else◌}
 use Rattle.rl_defs.specs.declared.code.Instr.TheVariants as instr
-use Rattle.rl_defs.specs.declared.code.DomainLine.{DomainLine}
 use Rattle.rl_defs.specs.declared.code.DomainLine.TheVariants as line
+use Rattle.rl_defs.specs.declared.code.Instr.{Instr}
+use Rattle.rl_defs.specs.declared.code.DomainLine.{DomainLine}
 use Rattle.rl_defs.specs.declared.code.DomainText.{DomainText}
-use Rattle.rl_defs.specs.Domains.{Lines}
-use Rattle.rl_defs.specs.Refusals.{Failing}
-use Rattle.rl_defs.specs.Parts.{Grammar, FailsPart, StandFor}
+use Rattle.rl_defs.specs.declared.bundle.Numbered.{Numbered}
+use Rattle.rl_defs.specs.Parts.{Grammar, FailsPart, StandFor, block_behind, forms_of}
 use Rattle.rl_defs.specs.DomainForms.{IsDomainLine}
+use Rattle.rl_defs.specs.Refusals.{Failing}
+use Rattle.rl_defs.specs.Domains.{Lines}
 
 -- Where some lines of the domain part lead: outside any domain; among the lines that a domain declares words, slots, imports and a
 -- native body with, of which it has some; behind a function; inside one; there directly behind a `jmp`, `ret` or `trap`.
-pub data Block : Type 0 where
-  Outside : Block
-  Declares : (words slots native : Bool) → Block
-  BehindFunction : Block
-  InFunction : Block
-  BehindEnd : Block
+pub data DomainBlock : Type 0 where
+  Outside : DomainBlock
+  Declares : (words slots native : Bool) → DomainBlock
+  BehindFunction : DomainBlock
+  InFunction : DomainBlock
+  BehindEnd : DomainBlock
 
-abbrev pub unless : Bool → Block → Option Block
+abbrev pub unless : Bool → DomainBlock → Option DomainBlock
 unless barred next = if barred then None else Some next
 
 -- control doesn't go on from this instruction to the next line
@@ -32,7 +33,7 @@ ends _ = false
 -- A domain is its head, then lines of words, slots, imports and a native body in any order, then functions, then a `}`. It has at
 -- most one `words` line and one native body; beside a native body it has imports only. A function is its head, heads and
 -- instructions, and a `}`; behind a `jmp`, `ret` or `trap` stands a head or the `}`. No other line may follow.
-abbrev pub next_block : Block → DomainLine → Option Block
+abbrev pub next_block : DomainBlock → DomainLine → Option DomainBlock
 next_block Outside (line.Domain name has) = Some (Declares false false false)
 next_block (Declares words slots native) (line.Words n) = unless (words || native) (Declares true slots native)
 next_block (Declares words slots native) (line.Slot name ty) = unless native (Declares words true native)
@@ -49,7 +50,7 @@ next_block BehindEnd (line.Head label items) = Some InFunction
 next_block BehindEnd line.Close = Some BehindFunction
 next_block _ _ = None
 
-abbrev pub domain_part : Grammar DomainLine Block
+abbrev pub domain_part : Grammar DomainLine DomainBlock
 domain_part = record { is_line = IsDomainLine; next = next_block; outside = Outside }
 
 -- what rules 1 and 2 refuse in a domain part
@@ -76,3 +77,12 @@ pub record AreDomains (first : ℕ) (texts : List (List ℕ)) (domains : List Do
   pub lines : Lines
   pub stand : StandFor domain_part first texts lines
   pub cut : domains ≡ domains_of lines
+
+-- the lines are those of one domain, in an order in which they may stand
+abbrev pub IsOneDomain : Lines → Type 0
+IsOneDomain [] = ⊥
+IsOneDomain (l ∷ ls) = (begins_domain l.form ≡ true) × (rest_of_domain ls ≡ ls) × (block_behind domain_part (forms_of (l ∷ ls)) ≡ Some Outside)
+
+-- the lines are numbered upwards
+abbrev pub LinesRise : Lines → Type 0
+LinesRise lines = (j k : ℕ) (x y : Numbered DomainLine) → j < k → slice_get lines j ≡ Some x → slice_get lines k ≡ Some y → x.line < y.line

@@ -6,7 +6,7 @@ use Rattle.rl_defs.specs.declared.code.DomainLine.{DomainLine}
 use Rattle.rl_defs.specs.declared.code.DomainLine.TheVariants as line
 use Rattle.rl_defs.specs.declared.code.Native.TheVariants as native
 use Rattle.rl_defs.specs.DomainValue.{Domain}
-use Rattle.rl_defs.specs.declared.load.Load.{Load}
+use Rattle.rl_defs.specs.declared.load.LoadRows.{LoadRows}
 use Rattle.rl_defs.specs.declared.load.LoadRow.{LoadRow}
 use Rattle.rl_defs.specs.declared.load.ShadowRow.{ShadowRow}
 use Rattle.rl_defs.specs.declared.tables.Tables.{Tables}
@@ -23,7 +23,7 @@ domain_lines None = []
 domain_lines (Some d) = d.lines
 
 -- the lines of the domain with this number, from 0
-abbrev pub domain_of : Load → ℕ → Lines
+abbrev pub domain_of : LoadRows → ℕ → Lines
 domain_of L d = domain_lines (slice_get L.domains d)
 
 -- how many words each instance has: the number of the `words` line, and 530 with the native body `rv6`
@@ -72,34 +72,37 @@ abbrev pub method_in : Option TraitRow → ℕ → Option MethodRow
 method_in None m = None
 method_in (Some t) m = slice_get t.methods m
 
--- the load with this number, from 1
-abbrev pub load_row : Load → ℕ → Option LoadRow
-load_row L zero = None
-load_row L (suc k) = slice_get L.loads k
+-- a row by its number, from 1
+abbrev pub row : {A : Type 0} → List A → ℕ → Option A
+row xs zero = None
+row xs (suc k) = slice_get xs k
 
--- the shadow with this target's number, of which the first comes after the last load
-abbrev pub shadow_row : Load → ℕ → Option ShadowRow
-shadow_row L zero = None
-shadow_row L (suc k) = slice_get L.shadows (k - length L.loads)
+-- the load with this number
+abbrev pub load_row : LoadRows → ℕ → Option LoadRow
+load_row L k = row L.loads k
+
+-- the shadow with this target's number: they are numbered on after the last load
+abbrev pub shadow_row : LoadRows → ℕ → Option ShadowRow
+shadow_row L x = row L.shadows (x - length L.loads)
 
 -- the load of a target: a load is its own, and a shadow has the one that it stands for
 abbrev pub load_of_shadow : Option ShadowRow → ℕ
 load_of_shadow None = 0
 load_of_shadow (Some x) = x.load
 
-abbrev pub load_of_row : Load → ℕ → Option LoadRow → ℕ
+abbrev pub load_of_row : LoadRows → ℕ → Option LoadRow → ℕ
 load_of_row L target None = load_of_shadow (shadow_row L target)
 load_of_row L target (Some l) = target
 
-abbrev pub load_of_target : Load → ℕ → ℕ
+abbrev pub load_of_target : LoadRows → ℕ → ℕ
 load_of_target L target = load_of_row L target (load_row L target)
 
 -- the lines of a load's domain
-abbrev pub lines_of_row : Load → Option LoadRow → Lines
+abbrev pub lines_of_row : LoadRows → Option LoadRow → Lines
 lines_of_row L None = []
 lines_of_row L (Some l) = domain_of L l.domain
 
-abbrev pub lines_of_load : Load → ℕ → Lines
+abbrev pub lines_of_load : LoadRows → ℕ → Lines
 lines_of_load L k = lines_of_row L (load_row L k)
 
 -- whether a domain has a native body
@@ -111,15 +114,15 @@ abbrev pub is_native : Lines → Bool
 is_native lines = list_any (λ l. names_native l.form) lines
 
 -- whether one thread at a time may be in a load's instances: where the plan says so, and with a native body always
-abbrev pub is_serial_row : Load → Option LoadRow → Bool
+abbrev pub is_serial_row : LoadRows → Option LoadRow → Bool
 is_serial_row L None = false
 is_serial_row L (Some l) = l.serial || is_native (domain_of L l.domain)
 
-abbrev pub is_serial : Load → ℕ → Bool
+abbrev pub is_serial : LoadRows → ℕ → Bool
 is_serial L k = is_serial_row L (load_row L k)
 
 -- the method of a target
-abbrev pub method_of : Load → ℕ → ℕ → Option MethodRow
+abbrev pub method_of : LoadRows → ℕ → ℕ → Option MethodRow
 method_of L target m = method_in (trait_named L.tables (trait_name (lines_of_load L (load_of_target L target)))) m
 
 -- the name of a target
@@ -127,11 +130,11 @@ abbrev pub shadow_name : Option ShadowRow → List ℕ
 shadow_name None = []
 shadow_name (Some x) = x.name
 
-abbrev pub row_name : Load → ℕ → Option LoadRow → List ℕ
+abbrev pub row_name : LoadRows → ℕ → Option LoadRow → List ℕ
 row_name L target None = shadow_name (shadow_row L target)
 row_name L target (Some l) = l.name
 
-abbrev pub target_name : Load → ℕ → List ℕ
+abbrev pub target_name : LoadRows → ℕ → List ℕ
 target_name L target = row_name L target (load_row L target)
 
 -- the name of a method of a target
@@ -139,5 +142,5 @@ abbrev pub method_row_name : Option MethodRow → List ℕ
 method_row_name None = []
 method_row_name (Some m) = m.name
 
-abbrev pub method_name : Load → ℕ → ℕ → List ℕ
+abbrev pub method_name : LoadRows → ℕ → ℕ → List ℕ
 method_name L target m = method_row_name (method_of L target m)

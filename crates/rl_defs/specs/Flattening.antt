@@ -1,5 +1,5 @@
 -- What a type flattens to: numbers and references to one kind each, a struct to its fields in order, an array to its element so often.
-use Rattle.std.specs.Prelude.{◌≡◌, ℕ, zero, suc, ◌*◌, Bool, true, false, ◌||◌, List, [], ◌∷◌, ◌++◌, Option, Some, None}
+use Rattle.std.specs.Prelude.{◌≡◌, ℕ, zero, suc, ◌*◌, Bool, true, false, ◌||◌, List, [], ◌∷◌, ◌++◌, Option, Some, None, if◌then◌else◌}
 use Rattle.std.specs.Option.{option_to_list}
 use Rattle.std.specs.List.{list_any}
 use Rattle.rl_defs.specs.declared.tables.Kind.{Kind}
@@ -36,8 +36,7 @@ base_struct lines (base.Struct name) = Some (struct_number lines name)
 base_struct lines _ = None
 
 abbrev pub unless_refused : {X : Type 0} → Bool → Option X → Option X
-unless_refused true found = None
-unless_refused false found = found
+unless_refused refused found = if refused then None else found
 
 -- the struct that a type holds by value, outside any RRef. Refused types aren't looked into.
 abbrev pub struct_held : Lines → TypeText → Option ℕ

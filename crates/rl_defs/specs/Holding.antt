@@ -14,12 +14,12 @@ pub record HasField (lines : Lines) (s t : ℕ) : Type 0 where
   pub holds : struct_held lines ty ≡ Some t
 
 -- one field or more lead from s to t, through these structs
-abbrev pub Leads : Lines → ℕ → List ℕ → ℕ → Type 0
-Leads lines s [] t = HasField lines s t
-Leads lines s (u ∷ us) t = HasField lines s u × Leads lines u us t
+abbrev pub FieldsLead : Lines → ℕ → List ℕ → ℕ → Type 0
+FieldsLead lines s [] t = HasField lines s t
+FieldsLead lines s (u ∷ us) t = HasField lines s u × FieldsLead lines u us t
 
 abbrev pub Reaches : Lines → ℕ → ℕ → Type 0
-Reaches lines s t = (us : List ℕ) × Leads lines s us t
+Reaches lines s t = (us : List ℕ) × FieldsLead lines s us t
 
 -- s reaches a struct that holds itself
 abbrev pub IsEndless : Lines → ℕ → Type 0

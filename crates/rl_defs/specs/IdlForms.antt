@@ -1,5 +1,5 @@
 -- The line forms of the interface part, by their spellings.
-use Rattle.std.specs.Prelude.{ℕ, ◌≤◌, Bool, List, [], ◌∷◌, ◌++◌, length, codes, if◌then◌else◌}
+use Rattle.std.specs.Prelude.{ℕ, ◌≤◌, Bool, List, [], ◌∷◌, ◌++◌, map, length, codes, if◌then◌else◌}
 use Rattle.rl_defs.specs.declared.tables.Width.{Width}
 use Rattle.rl_defs.specs.declared.tables.Width.TheVariants as width
 use Rattle.rl_defs.specs.declared.idl.Wrap.{Wrap}
@@ -117,8 +117,7 @@ AreTypes [] = Unit {0}
 AreTypes (ty ∷ more) = IsType ty × AreTypes more
 
 abbrev pub AreParams : List Param → Type 0
-AreParams [] = Unit {0}
-AreParams (p ∷ more) = IsType p.ty × AreParams more
+AreParams params = AreTypes (map (λ p. p.ty) params)
 
 abbrev pub IsResult : ResultText → Type 0
 IsResult Missing = Unit {0}
@@ -127,12 +126,9 @@ IsResult (Rpc out) = AreTypes out
 
 -- the types of a line are types
 abbrev pub IsForm : IdlLine → Type 0
-IsForm (Struct name) = Unit {0}
 IsForm (Field name ty) = IsType ty
-IsForm (Trait name) = Unit {0}
-IsForm Idempotent = Unit {0}
 IsForm (Method name params result) = AreParams params × IsResult result
-IsForm Close = Unit {0}
+IsForm _ = Unit {0}
 
 -- A text is a line of this form.
 pub record IsIdlLine (form : IdlLine) (text : List ℕ) : Type 0 where

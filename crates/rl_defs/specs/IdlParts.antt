@@ -7,15 +7,15 @@ use Rattle.rl_defs.specs.Parts.{Grammar, FailsPart, FailsLine}
 use Rattle.rl_defs.specs.IdlForms.{IsIdlLine}
 
 -- Which block is open behind some lines.
-pub data Block : Type 0 where
-  Outside : Block
-  InStruct : Block
-  InTrait : Block
-  BeforeMethod : Block
+pub data IdlBlock : Type 0 where
+  Outside : IdlBlock
+  InStruct : IdlBlock
+  InTrait : IdlBlock
+  BeforeMethod : IdlBlock
 
 -- A struct is its head, fields and a `}`. A trait is its head, methods, each with at most one attribute directly before it, and
 -- a `}`. No other line may follow.
-abbrev pub next_block : Block → IdlLine → Option Block
+abbrev pub next_block : IdlBlock → IdlLine → Option IdlBlock
 next_block Outside (Struct name) = Some InStruct
 next_block Outside (Trait name) = Some InTrait
 next_block InStruct (Field name ty) = Some InStruct
@@ -26,7 +26,7 @@ next_block InTrait Close = Some Outside
 next_block BeforeMethod (Method name params result) = Some InTrait
 next_block _ _ = None
 
-abbrev pub interface_part : Grammar IdlLine Block
+abbrev pub interface_part : Grammar IdlLine IdlBlock
 interface_part = record { is_line = IsIdlLine; next = next_block; outside = Outside }
 
 -- what rules 1 and 2 refuse in an interface part

@@ -1,6 +1,6 @@
 -- The structs and traits that the lines of an interface part give, in the order of the text.
-use Rattle.std.specs.Prelude.{◌≡◌, ◌<◌, ℕ, suc, Bool, true, false, List, [], ◌∷◌, ◌++◌, Option, Some, None, if◌then◌else◌, slice_get, unwrap_or, nat_eq}
-use Rattle.std.specs.Option.{option_map, option_to_list}
+use Rattle.std.specs.Prelude.{◌≡◌, ◌<◌, ℕ, suc, Bool, true, false, List, [], ◌∷◌, ◌++◌, map, Option, Some, None, if◌then◌else◌, slice_get, unwrap_or, nat_eq}
+use Rattle.std.specs.Option.{option_map, option_map_or, option_to_list}
 use Rattle.std.specs.Cmp.Lexicographic.{pointwise}
 use Rattle.rl_defs.specs.declared.bundle.Numbered.{Numbered}
 use Rattle.rl_defs.specs.declared.idl.IdlLine.{IdlLine}
@@ -83,12 +83,10 @@ traits_of [] = []
 traits_of (x ∷ xs) = trait_before x.line x.form (methods_of xs false) (traits_of xs)
 
 abbrev pub types_of : List FieldText → List TypeText
-types_of [] = []
-types_of (f ∷ fs) = f.ty ∷ types_of fs
+types_of fields = map (λ f. f.ty) fields
 
 abbrev pub param_types : List Param → List TypeText
-param_types [] = []
-param_types (p ∷ ps) = p.ty ∷ param_types ps
+param_types params = map (λ p. p.ty) params
 
 abbrev pub result_types : ResultText → List TypeText
 result_types results.Missing = []
@@ -96,8 +94,7 @@ result_types (results.Plain types) = types
 result_types (results.Rpc types) = types
 
 abbrev pub field_types : Option StructText → List TypeText
-field_types None = []
-field_types (Some t) = types_of t.fields
+field_types text = option_map_or (λ t. types_of t.fields) text []
 
 -- the types of the fields of a struct, by its number
 abbrev pub types_at : Lines → ℕ → List TypeText

@@ -1,21 +1,17 @@
 -- What is kept beside the lines of a checked domain, so that no step of a run looks a name up.
-use Rattle.std.specs.Prelude.{◌≡◌, ℕ, List, [], ◌∷◌, Option, Some, None, slice_get, unwrap_or}
-use Rattle.rl_defs.specs.declared.code.Register.{Register}
-use Rattle.rl_defs.specs.declared.code.Instr.{Instr}
+use Rattle.std.specs.Prelude.{◌≡◌, ℕ, Option, Some, None, unwrap_or, fold, List}
+use Rattle.std.specs.Option.{option_and_then}
 use Rattle.rl_defs.specs.declared.code.Instr.TheVariants as instr
-use Rattle.rl_defs.specs.declared.tables.MethodRow.{MethodRow}
+use Rattle.rl_defs.specs.declared.code.Instr.{Instr}
+use Rattle.rl_defs.specs.declared.code.Register.{Register}
 use Rattle.rl_defs.specs.DomainValue.{Domain}
-use Rattle.rl_defs.specs.Domains.{body_of_function}
-use Rattle.rl_defs.specs.CodeNames.{Function, function_at, struct_number, method_number, methods_of, domain_trait}
-use Rattle.rl_defs.specs.CodeKinds.{Kinds, kinds_at, kind_in, at_label}
-use Rattle.rl_defs.specs.CodeRules.{object_struct, label_of, place_of_label}
-use Rattle.rl_defs.specs.Instructions.{Registers, with_value, slot_number, import_number, trait_of_kind, behind_heads}
-use Rattle.rl_defs.specs.CodeFits.{Typing, Fits}
+use Rattle.rl_defs.specs.CodeNames.{Function, method_number, domain_trait, function_at, struct_number, slot_number, import_number, label_of, place_of_label}
+use Rattle.rl_defs.specs.CodeKinds.{Kinds, kind_in, trait_of_kind, object_struct, kinds_at, at_label}
+use Rattle.rl_defs.specs.Registers.{Registers, with_value, behind_heads, Typing, Fits}
 
 -- the method that a function is for, by its number
 abbrev pub number_of_function : Domain → Option Function → Option ℕ
-number_of_function d None = None
-number_of_function d (Some f) = method_number d.tables (domain_trait d) f.name
+number_of_function d function = option_and_then (λ f. method_number d.tables (domain_trait d) f.name) function
 
 -- The struct, slot, import or method that an instruction at line n names, by its number. A `ret` names the method of its function.
 abbrev pub number_named : Domain → ℕ → Kinds → Instr → Option ℕ
@@ -37,8 +33,7 @@ type_named d kinds _ = None
 
 -- these registers lose what they hold
 abbrev pub emptied : List Register → Registers → Registers
-emptied [] regs = regs
-emptied (r ∷ rs) regs = emptied rs (with_value regs r None)
+emptied rs regs = fold (λ before r. with_value before r None) regs rs
 
 -- Control that comes to a line, with registers that fit these kinds, stands at the line `to` behind the heads there, and these registers
 -- are emptied.
@@ -58,11 +53,3 @@ LeadsHere d n to rs = Leads d (kinds_at d n) n to rs
 -- where control stands that goes to the label of an instruction
 abbrev pub LeadsToLabel : Domain → ℕ → Instr → ℕ → List Register → Type 0
 LeadsToLabel d n i to rs = (p : ℕ) → place_of_label d n (label_of i) ≡ Some p → Leads d (at_label (kinds_at d n) i) p to rs
-
--- the place of the first line of the function for a method of the domain's trait
-abbrev pub entry_of : Domain → Option MethodRow → Option ℕ
-entry_of d None = None
-entry_of d (Some m) = Some (body_of_function d.lines m.name)
-
-abbrev pub entry_at : Domain → ℕ → Option ℕ
-entry_at d m = entry_of d (slice_get (methods_of d.tables (domain_trait d)) m)

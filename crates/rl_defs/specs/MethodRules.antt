@@ -11,17 +11,17 @@ use Rattle.rl_defs.specs.declared.tables.Kind.TheVariants as kind
 use Rattle.rl_defs.specs.declared.tables.MethodRow.{MethodRow}
 use Rattle.rl_defs.specs.declared.tables.TraitRow.{TraitRow}
 use Rattle.rl_defs.specs.declared.tables.Tables.{Tables}
-use Rattle.rl_defs.specs.Refusals.{Failing}
+use Rattle.rl_defs.specs.Refusals.{Failing, HasLine}
 use Rattle.rl_defs.specs.Interfaces.{Lines, MethodText, TraitText, traits_of, structs_of, param_types, result_types}
 use Rattle.rl_defs.specs.Flattening.{Flattens}
-use Rattle.rl_defs.specs.TypeRules.{LineIs, is_lent, AreStructRows}
+use Rattle.rl_defs.specs.TypeRules.{is_lent, AreStructRows}
 
 -- the line of this number is a method with these parameters and this result
 pub record MethodAt (lines : Lines) (n : ℕ) : Type 0 where
   pub name : List ℕ
   pub params : List Param
   pub result : ResultText
-  pub here : LineIs lines n (form.Method name params result)
+  pub here : HasLine lines n (form.Method name params result)
 
 abbrev pub is_rpc : ResultText → Bool
 is_rpc (results.Rpc types) = true
@@ -66,7 +66,11 @@ pub record HasTooManyResults (lines : Lines) (n : ℕ) : Type 0 where
 
 -- which of the rules 20 to 23 fail at which lines
 abbrev pub FailsMethods : Idl → Failing
-FailsMethods idl n rule = ((rule ≡ 20) × NoRpcResult idl.lines n) ⊎ (((rule ≡ 21) × LendsResult idl.lines n) ⊎ (((rule ≡ 22) × MovesWhenIssuedAgain idl.lines n) ⊎ ((rule ≡ 23) × (HasTooManyParams idl.lines n ⊎ HasTooManyResults idl.lines n))))
+FailsMethods idl n rule =
+    ((rule ≡ 20) × NoRpcResult idl.lines n)
+    ⊎ (((rule ≡ 21) × LendsResult idl.lines n)
+    ⊎ (((rule ≡ 22) × MovesWhenIssuedAgain idl.lines n)
+    ⊎ ((rule ≡ 23) × (HasTooManyParams idl.lines n ⊎ HasTooManyResults idl.lines n))))
 
 -- the row of a method: its name, whether it is marked, and what its parameters and results flatten to
 pub record IsMethodRow (lines : Lines) (text : MethodText) (row : MethodRow) : Type 0 where

@@ -1,5 +1,5 @@
 -- The traits that a native body and its import have to have: which methods, in which order, over which structs.
-use Rattle.std.specs.Prelude.{ℕ, ◌==◌, ◌&&◌, not, Bool, true, false, List, [], ◌∷◌, ◌++◌, length, codes, is_none}
+use Rattle.std.specs.Prelude.{ℕ, ◌==◌, ◌&&◌, not, Bool, true, false, List, [], ◌∷◌, ◌++◌, length, codes, if◌then◌else◌}
 use Rattle.std.specs.List.{list_all}
 use Rattle.rl_defs.specs.declared.code.Native.{Native}
 use Rattle.rl_defs.specs.declared.code.Native.TheVariants as native
@@ -11,7 +11,7 @@ use Rattle.rl_defs.specs.declared.tables.MethodRow.{MethodRow}
 use Rattle.rl_defs.specs.declared.tables.Tables.{Tables}
 use Rattle.rl_defs.specs.Words.{same_bytes}
 use Rattle.rl_defs.specs.DomainValue.{Domain}
-use Rattle.rl_defs.specs.CodeNames.{cells_of, methods_of, imports, place_in, import_trait, domain_trait}
+use Rattle.rl_defs.specs.CodeNames.{cells_of, methods_of, import_trait, domain_trait}
 
 -- what a struct of these traits is for: a block of the device, a file's name, the bytes of a file
 pub data Role : Type 0 where
@@ -101,8 +101,7 @@ are_shapes tables (shape ∷ shapes) (k ∷ kinds) = is_shape tables shape k && 
 are_shapes tables _ _ = false
 
 abbrev pub same_mark : Bool → Bool → Bool
-same_mark true marked = marked
-same_mark false marked = not marked
+same_mark wanted marked = if wanted then marked else not marked
 
 abbrev pub is_method : Tables → MethodShape → MethodRow → Bool
 is_method tables shape row =
@@ -133,11 +132,10 @@ own_methods d = methods_of d.tables (domain_trait d)
 abbrev pub import_methods : Domain → Native → List MethodRow
 import_methods d body = methods_of d.tables (import_trait d (import_of body))
 
-abbrev pub lacks_import : Domain → Native → Bool
-lacks_import d body = is_none (place_in (import_of body) (imports d.lines))
-
-abbrev pub has_other_shape : Domain → Native → Bool
-has_other_shape d body = not (are_methods d.tables (shape_of body) (own_methods d) && are_methods d.tables (import_shape body) (import_methods d body))
+-- the traits of a native body, and of its import, are of their shapes
+abbrev pub are_of_shape : Domain → Native → Bool
+are_of_shape d body =
+    are_methods d.tables (shape_of body) (own_methods d) && are_methods d.tables (import_shape body) (import_methods d body)
 
 abbrev pub same_role : Role → Role → Bool
 same_role Block Block = true
@@ -146,8 +144,7 @@ same_role Buffer Buffer = true
 same_role _ _ = false
 
 abbrev pub put_where : Bool → ℕ → List ℕ → List ℕ
-put_where true s others = s ∷ others
-put_where false s others = others
+put_where here s others = if here then s ∷ others else others
 
 -- the struct at a place that is for this role
 abbrev pub struct_at : Role → Shape → Kind → List ℕ → List ℕ
@@ -173,5 +170,7 @@ abbrev pub are_one : List ℕ → Bool
 are_one [] = true
 are_one (s ∷ others) = list_all (λ t. t == s) others
 
-abbrev pub has_other_structs : Domain → Native → Bool
-has_other_structs d body = not (are_one (structs_of d body Block) && (are_one (structs_of d body FileName) && are_one (structs_of d body Buffer)))
+-- the traits of a native body and of its import have one struct where they are to have one
+abbrev pub have_one_struct : Domain → Native → Bool
+have_one_struct d body =
+    are_one (structs_of d body Block) && (are_one (structs_of d body FileName) && are_one (structs_of d body Buffer))

@@ -1,5 +1,6 @@
 -- A part of a bundle, whatever its line forms are: the order of its lines, and what rules 1 and 2 refuse in it.
 use Rattle.std.specs.Prelude.{◌≡◌, ◌≢◌, ℕ, ◌+◌, ◌⊎◌, List, [], ◌∷◌, Option, Some, None, map, fold, slice_get, length, take}
+use Rattle.std.specs.Option.{option_and_then}
 use Rattle.rl_defs.specs.declared.bundle.Numbered.{Numbered}
 use Rattle.rl_defs.specs.Refusals.{Failing}
 use Rattle.rl_defs.specs.Tokens.{IsSkipped}
@@ -12,8 +13,7 @@ pub record Grammar (Form Block : Type 0) : Type 1 where
   pub outside : Block
 
 abbrev pub next_open : {Form Block : Type 0} → Grammar Form Block → Option Block → Form → Option Block
-next_open G (Some block) form = G.next block form
-next_open G None form = None
+next_open G block form = option_and_then (λ inside. G.next inside form) block
 
 -- the block that is open behind lines, where each of them may stand where it stands
 abbrev pub block_behind : {Form Block : Type 0} → Grammar Form Block → List Form → Option Block

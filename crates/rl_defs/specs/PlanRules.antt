@@ -1,52 +1,20 @@
 -- Rules 40 to 46: the plan, and how much a bundle may have.
-use Rattle.std.specs.Prelude.{◌≡◌, ℕ, ◌<◌, ◌≤◌, ◌⊎◌, true, List, [], ◌∷◌, ◌++◌, Option, Some, None, slice_get}
-use Rattle.rl_defs.specs.declared.bundle.Numbered.{Numbered}
-use Rattle.rl_defs.specs.declared.bundle.PlanLine.{PlanLine}
+use Rattle.std.specs.Prelude.{◌≡◌, ◌≢◌, ℕ, ◌<◌, ◌≤◌, ◌⊎◌, true, List, ◌∷◌, ◌++◌, Some, None, slice_get}
 use Rattle.rl_defs.specs.declared.bundle.PlanLine.TheVariants as plan
-use Rattle.rl_defs.specs.declared.bundle.ClientLine.{ClientLine}
 use Rattle.rl_defs.specs.declared.code.DomainLine.TheVariants as line
-use Rattle.rl_defs.specs.Refusals.{Failing}
+use Rattle.rl_defs.specs.declared.bundle.Bundle.{Bundle}
+use Rattle.rl_defs.specs.Refusals.{Failing, HasLine}
 use Rattle.rl_defs.specs.Interfaces.{place_of}
 use Rattle.rl_defs.specs.Domains.{Lines, trait_name, is_native}
 use Rattle.rl_defs.specs.CodeNames.{Declared, imports, place_in, type_at}
-use Rattle.rl_defs.specs.declared.bundle.Bundle.{Bundle}
-use Rattle.rl_defs.specs.BundleNames.{Given, given_by, names_of, bind_given, load_given, client_given, slot_given, load_names, domain_of_load, lines_of_domain, DomainIs, ClientLines, scripts_of}
-
--- the line of the plan with this number has this form
-pub record PlanIs (b : Bundle) (n : ℕ) (form : PlanLine) : Type 0 where
-  pub place : ℕ
-  pub here : slice_get b.plan.lines place ≡ Some (record { line = n; form = form })
-
--- the lines of the domain of a load
-pub record LoadIs (b : Bundle) (load : List ℕ) (lines : Lines) : Type 0 where
-  pub domain : List ℕ
-  pub loaded : domain_of_load b load ≡ Some domain
-  pub text : lines_of_domain b domain ≡ Some lines
-
--- the load of a target: a load is its own, and a shadow has the one that it stands for
-abbrev pub shadow_load : PlanLine → List ℕ → Option (List ℕ) → Option (List ℕ)
-shadow_load (plan.Shadow name load restarts) target others = chosen (place_of target (name ∷ [])) where
-  chosen : Option ℕ → Option (List ℕ)
-  chosen None = others
-  chosen (Some k) = Some load
-shadow_load _ target others = others
-
-abbrev pub load_of_shadow : List (Numbered PlanLine) → List ℕ → Option (List ℕ)
-load_of_shadow [] target = None
-load_of_shadow (l ∷ ls) target = shadow_load l.form target (load_of_shadow ls target)
-
-abbrev pub load_at : Bundle → List ℕ → Option ℕ → Option (List ℕ)
-load_at b target None = load_of_shadow b.plan.lines target
-load_at b target (Some k) = Some target
-
-abbrev pub load_of_target : Bundle → List ℕ → Option (List ℕ)
-load_of_target b target = load_at b target (place_of target (load_names b))
+use Rattle.rl_defs.specs.BundleNames.{Given, given_by, names_of, bind_given, load_given, client_given, slot_given, device_given, shadowed, load_names, lines_of_domain, load_behind, load_lines, target_lines}
+use Rattle.rl_defs.specs.NameRules.{GivenTwice, DomainIs, CommandAt}
 
 -- rule 40: an import of the load's domain has no `bind`
 pub record IsUnbound (b : Bundle) (n : ℕ) : Type 0 where
   pub name : List ℕ
   pub domain : List ℕ
-  pub line : PlanIs b n (plan.Load name domain)
+  pub line : HasLine b.plan.lines n (plan.Load name domain)
   pub lines : Lines
   pub text : lines_of_domain b domain ≡ Some lines
   pub place : ℕ
@@ -59,25 +27,23 @@ pub record HasOtherTrait (b : Bundle) (n : ℕ) : Type 0 where
   pub load : List ℕ
   pub import : List ℕ
   pub target : List ℕ
-  pub line : PlanIs b n (plan.Bind load import target)
+  pub line : HasLine b.plan.lines n (plan.Bind load import target)
   pub lines : Lines
-  pub binds : LoadIs b load lines
-  pub target_load : List ℕ
-  pub stands_for : load_of_target b target ≡ Some target_load
-  pub target_lines : Lines
-  pub bound : LoadIs b target_load target_lines
-  pub other : place_of (trait_name target_lines) (type_at (imports lines) (place_in import (imports lines)) ∷ []) ≡ None
+  pub binds : load_lines b load ≡ Some lines
+  pub others : Lines
+  pub bound : target_lines b target ≡ Some others
+  pub differ : trait_name others ≢ type_at (imports lines) (place_in import (imports lines))
 
 -- rule 42: the target's load isn't before the binding load
 pub record IsBoundBackwards (b : Bundle) (n : ℕ) : Type 0 where
   pub load : List ℕ
   pub import : List ℕ
   pub target : List ℕ
-  pub line : PlanIs b n (plan.Bind load import target)
+  pub line : HasLine b.plan.lines n (plan.Bind load import target)
   pub place : ℕ
   pub binds : place_of load (load_names b) ≡ Some place
   pub target_load : List ℕ
-  pub stands_for : load_of_target b target ≡ Some target_load
+  pub stands_for : load_behind b target ≡ Some target_load
   pub target_place : ℕ
   pub bound : place_of target_load (load_names b) ≡ Some target_place
   pub behind : place ≤ target_place
@@ -87,43 +53,18 @@ pub record ShadowsNative (b : Bundle) (n : ℕ) : Type 0 where
   pub name : List ℕ
   pub load : List ℕ
   pub restarts : ℕ
-  pub line : PlanIs b n (plan.Shadow name load restarts)
+  pub line : HasLine b.plan.lines n (plan.Shadow name load restarts)
   pub lines : Lines
-  pub stands_for : LoadIs b load lines
+  pub text : load_lines b load ≡ Some lines
   pub native : is_native lines ≡ true
-
--- rule 43: an earlier shadow has the load
-pub record ShadowsAgain (b : Bundle) (n : ℕ) : Type 0 where
-  pub name : List ℕ
-  pub load : List ℕ
-  pub restarts : ℕ
-  pub line : PlanIs b n (plan.Shadow name load restarts)
-  pub earlier : ℕ
-  pub number : ℕ
-  pub other : List ℕ
-  pub others : ℕ
-  pub before : earlier < line.place
-  pub there : slice_get b.plan.lines earlier ≡ Some (record { line = number; form = plan.Shadow other load others })
 
 -- rule 44: more than 16 restarts
 pub record RestartsTooOften (b : Bundle) (n : ℕ) : Type 0 where
   pub name : List ℕ
   pub load : List ℕ
   pub restarts : ℕ
-  pub line : PlanIs b n (plan.Shadow name load restarts)
+  pub line : HasLine b.plan.lines n (plan.Shadow name load restarts)
   pub many : 16 < restarts
-
--- rule 45: a second `device` line
-pub record HasDeviceTwice (b : Bundle) (n : ℕ) : Type 0 where
-  pub load : List ℕ
-  pub blocks : ℕ
-  pub line : PlanIs b n (plan.Device load blocks)
-  pub earlier : ℕ
-  pub number : ℕ
-  pub other : List ℕ
-  pub others : ℕ
-  pub before : earlier < line.place
-  pub there : slice_get b.plan.lines earlier ≡ Some (record { line = number; form = plan.Device other others })
 
 -- so many things of a kind are too many: the line gives one that stands behind as many as there may be
 pub record GoesOver (most : ℕ) (names : List Given) (n : ℕ) : Type 0 where
@@ -141,21 +82,15 @@ pub record HasTooManySlots (b : Bundle) (n : ℕ) : Type 0 where
 
 -- rule 46: the line goes over 1,000 commands of a client
 pub record HasTooManyCommands (b : Bundle) (n : ℕ) : Type 0 where
-  pub script : ClientLines
-  pub number : ℕ
-  pub client : slice_get (scripts_of b.clients.lines) number ≡ Some script
-  pub place : ℕ
-  pub over : 1000 ≤ place
-  pub form : ClientLine
-  pub here : slice_get script place ≡ Some (record { line = n; form = form })
+  pub command : CommandAt b n
+  pub over : 1000 ≤ command.place
 
 -- rule 46: more than 4,096 words
 pub record HasTooManyWords (b : Bundle) (n : ℕ) : Type 0 where
   pub lines : Lines
   pub domain : DomainIs b lines
-  pub place : ℕ
   pub words : ℕ
-  pub here : slice_get lines place ≡ Some (record { line = n; form = line.Words words })
+  pub line : HasLine lines n (line.Words words)
   pub many : 4096 < words
 
 -- a number outside these bounds
@@ -165,13 +100,13 @@ IsOutside least most n = (n < least) ⊎ (most < n)
 -- rule 46: fuel outside 1 to 1,000,000, or a device outside 1 to 4,096 blocks
 pub record HasOtherFuel (b : Bundle) (n : ℕ) : Type 0 where
   pub fuel : ℕ
-  pub line : PlanIs b n (plan.Fuel fuel)
+  pub line : HasLine b.plan.lines n (plan.Fuel fuel)
   pub outside : IsOutside 1 1000000 fuel
 
 pub record HasOtherDevice (b : Bundle) (n : ℕ) : Type 0 where
   pub load : List ℕ
   pub blocks : ℕ
-  pub line : PlanIs b n (plan.Device load blocks)
+  pub line : HasLine b.plan.lines n (plan.Device load blocks)
   pub outside : IsOutside 1 4096 blocks
 
 -- rule 46, whole: over 16 clients or 64 loads, or over one of the numbers above
@@ -184,13 +119,14 @@ IsTooMuch b n =
     ⊎ (HasTooManyWords b n
     ⊎ (HasOtherFuel b n ⊎ HasOtherDevice b n)))))
 
--- which of the rules 40 to 46 fail at which lines of a bundle
+-- which of the rules 40 to 46 fail at which lines of a bundle: for 43 an earlier shadow may have the load, and for 45 an earlier `device`
+-- line stands in the plan
 abbrev pub FailsPlanRules : Bundle → Failing
 FailsPlanRules b n rule =
     ((rule ≡ 40) × IsUnbound b n)
     ⊎ (((rule ≡ 41) × HasOtherTrait b n)
     ⊎ (((rule ≡ 42) × IsBoundBackwards b n)
-    ⊎ (((rule ≡ 43) × (ShadowsNative b n ⊎ ShadowsAgain b n))
+    ⊎ (((rule ≡ 43) × (ShadowsNative b n ⊎ GivenTwice (given_by shadowed b.plan.lines) n))
     ⊎ (((rule ≡ 44) × RestartsTooOften b n)
-    ⊎ (((rule ≡ 45) × HasDeviceTwice b n)
+    ⊎ (((rule ≡ 45) × GivenTwice (given_by device_given b.plan.lines) n)
     ⊎ ((rule ≡ 46) × IsTooMuch b n))))))

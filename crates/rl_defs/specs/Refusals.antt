@@ -1,11 +1,17 @@
 -- The first failing pair of a line and a rule, and what a phase of the checks answers.
-use Rattle.std.specs.Prelude.{◌≡◌, ℕ, ◌<◌, ◌≤◌, ◌⊎◌, Result, Ok, Err}
+use Rattle.std.specs.Prelude.{◌≡◌, ℕ, ◌<◌, ◌≤◌, ◌⊎◌, Result, Ok, Err, List, Some, slice_get}
+use Rattle.rl_defs.specs.declared.bundle.Numbered.{Numbered}
 use Rattle.rl_defs.specs.declared.LoadFault.{LoadFault}
 use Rattle.rl_defs.specs.declared.LoadFault.TheVariants.{Refused, Memory}
 
 -- which rules fail at which lines
 abbrev pub Failing : Type 1
 Failing = ℕ → ℕ → Type 0
+
+-- the line of this number is among these lines, and has this form
+pub record HasLine {Form : Type 0} (lines : List (Numbered Form)) (n : ℕ) (form : Form) : Type 0 where
+  pub place : ℕ
+  pub here : slice_get lines place ≡ Some (record { line = n; form = form })
 
 -- the line is earlier, or it is the same line and the rule is not greater
 abbrev pub NotAfter : ℕ → ℕ → ℕ → ℕ → Type 0

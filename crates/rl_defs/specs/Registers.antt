@@ -1,20 +1,17 @@
--- Register work: what the lines of domain code come to, up to the next action or trap.
-use Rattle.std.specs.Prelude.{ℕ, zero, suc, ◌+◌, ◌%◌, ◌^◌, List, Option, Some, None, slice_get, slice_set, nat_le, if◌then◌else◌, length}
-use Rattle.std.specs.List.{slice_index_or, filter_map}
-use Rattle.rl_defs.specs.declared.values.Value.{Value}
-use Rattle.rl_defs.specs.declared.values.Value.TheVariants as value
-use Rattle.rl_defs.specs.declared.values.Cause.TheVariants as cause
-use Rattle.rl_defs.specs.declared.bundle.Numbered.{Numbered}
-use Rattle.rl_defs.specs.declared.code.Register.{Register}
-use Rattle.rl_defs.specs.declared.code.MathOp.{MathOp}
-use Rattle.rl_defs.specs.declared.code.MathOp.TheVariants as op
-use Rattle.rl_defs.specs.declared.code.Instr.{Instr}
-use Rattle.rl_defs.specs.declared.code.Instr.TheVariants as instr
-use Rattle.rl_defs.specs.declared.code.DomainLine.{DomainLine}
+-- What registers hold, the kinds that they fit, and the heads that empty them.
+use Rattle.std.specs.Prelude.{ℕ, ◌+◌, ◌==◌, [], ◌∷◌, ◌≡◌, List, Option, None, slice_set, Bool, true, false, Some, length, map, drop, if◌then◌else◌}
+use Rattle.std.specs.List.{slice_index_or, list_any}
 use Rattle.rl_defs.specs.declared.code.DomainLine.TheVariants as line
-use Rattle.rl_defs.specs.declared.frame.Action.{Action}
-use Rattle.rl_defs.specs.declared.frame.Action.TheVariants as action
+use Rattle.rl_defs.specs.declared.values.Value.TheVariants as value
+use Rattle.rl_defs.specs.declared.code.RegKind.TheVariants as held
+use Rattle.rl_defs.specs.declared.values.Value.{Value}
+use Rattle.rl_defs.specs.declared.code.Register.{Register}
+use Rattle.rl_defs.specs.declared.code.RegKind.{RegKind}
+use Rattle.rl_defs.specs.declared.code.HeadItem.{HeadItem}
+use Rattle.rl_defs.specs.declared.code.DomainLine.{DomainLine}
+use Rattle.rl_defs.specs.CodeKinds.{Kinds}
 use Rattle.rl_defs.specs.Domains.{Lines}
+use Rattle.rl_defs.specs.DomainValue.{Domain}
 
 -- what each register holds
 abbrev pub Registers : Type 0
@@ -23,66 +20,52 @@ Registers = List (Option Value)
 abbrev pub value_in : Registers → Register → Option Value
 value_in regs r = slice_index_or regs r.number None
 
-abbrev pub number_of : Option Value → Option ℕ
-number_of (Some (value.Num n)) = Some n
-number_of _ = None
+abbrev pub with_value : Registers → Register → Option Value → Registers
+with_value regs r v = slice_set regs r.number v
 
-abbrev pub number_in : Registers → Register → Option ℕ
-number_in regs r = number_of (value_in regs r)
+-- where a frame stands: a line, and what the registers hold
+pub record Stand : Type 0 where
+  pub at : ℕ
+  pub regs : Registers
 
--- the registers with a number in one of them
-abbrev pub with_number : Registers → Register → ℕ → Registers
-with_number regs r n = slice_set regs r.number (Some (value.Num n))
+-- of which struct each object is, and of which trait each target, by their numbers
+pub record Typing : Type 0 where
+  pub struct_of : ℕ → ℕ
+  pub trait_of : ℕ → ℕ
 
--- an instruction goes on at the next line, or would make an action, or meets a register that doesn't hold what it needs
-pub data Outcome : Type 0 where
-  Works : (regs : Registers) → Outcome
-  Would : (act : Action) → Outcome
-  Stuck : Outcome
+-- what a register holds is of its kind; it is empty exactly where its kind is
+abbrev pub fits_kind : Typing → RegKind → Option Value → Bool
+fits_kind types held.Empty None = true
+fits_kind types held.Num (Some (value.Num n)) = true
+fits_kind types (held.Own s) (Some (value.Obj o)) = types.struct_of o == s
+fits_kind types (held.Lent s) (Some (value.Obj o)) = types.struct_of o == s
+fits_kind types (held.Cap t) (Some (value.Cap x)) = types.trait_of x == t
+fits_kind types _ _ = false
 
--- the operation on two numbers. All but the sum are not there yet
-abbrev pub calculate : MathOp → ℕ → ℕ → Option ℕ
-calculate op.Add x y = Some ((x + y) % 2 ^ 64)
-calculate _ x y = None
+-- the registers fit these kinds
+pub record Fits (types : Typing) (kinds : Kinds) (regs : Registers) : Type 0 where
+  pub all : length regs ≡ 32
+  pub each : (r : ℕ) → fits_kind types (slice_index_or kinds r held.Empty) (slice_index_or regs r None) ≡ true
 
-abbrev pub with_result : Registers → Register → Option ℕ → Outcome
-with_result regs a None = Stuck
-with_result regs a (Some n) = Works (with_number regs a n)
+abbrev pub is_listed : ℕ → List Register → Bool
+is_listed k listed = list_any (λ r. r.number == k) listed
 
-abbrev pub math : MathOp → Registers → Register → Option ℕ → Option ℕ → Outcome
-math o regs a (Some x) (Some y) = with_result regs a (calculate o x y)
-math o regs a _ _ = Stuck
+-- a head empties every register that it doesn't list
+abbrev pub keep_from : ℕ → List Register → Registers → Registers
+keep_from k listed [] = []
+keep_from k listed (v ∷ regs) = (if is_listed k listed then v else None) ∷ keep_from (k + 1) listed regs
 
--- a return has at most 4 results
-abbrev pub returning : Registers → List Register → Outcome
-returning regs results = if nat_le (length results) 4 then Would (action.Ret (filter_map (value_in regs) results)) else Stuck
+abbrev pub kept : List HeadItem → Registers → Registers
+kept items regs = keep_from 0 (map (λ item. item.register) items) regs
 
--- an instruction's meaning. Those that are not there yet are stuck
-abbrev pub meaning : Instr → Registers → Outcome
-meaning (instr.Math o a b c) regs = math o regs a (number_in regs b) (number_in regs c)
-meaning (instr.Ret results) regs = returning regs results
-meaning _ regs = Stuck
+-- control goes through the heads that stand at a place, down to the first line that is none
+abbrev pub through_form : DomainLine → Stand → (Registers → Stand) → Stand
+through_form (line.Head label items) here further = further (kept items here.regs)
+through_form _ here further = here
 
--- where register work ends: before an action, with the fuel, the line and the registers there
-pub data Settled : Type 0 where
-  Nowhere : Settled
-  Before : (act : Action) (fuel at : ℕ) (regs : Registers) → Settled
+abbrev pub through : Lines → ℕ → Registers → Stand
+through [] at regs = record { at = at; regs = regs }
+through (l ∷ ls) at regs = through_form l.form (record { at = at; regs = regs }) (through ls (at + 1))
 
-abbrev pub go_on : Outcome → (Registers → Settled) → ℕ → ℕ → Registers → Settled
-go_on (Works after) next fuel at regs = next after
-go_on (Would act) next fuel at regs = Before act fuel at regs
-go_on Stuck next fuel at regs = Nowhere
-
--- a line that is no instruction is stuck
-abbrev pub form_meaning : DomainLine → Registers → Outcome
-form_meaning (line.Code i) regs = meaning i regs
-form_meaning _ regs = Stuck
-
-abbrev pub line_meaning : Option (Numbered DomainLine) → Registers → Outcome
-line_meaning None regs = Stuck
-line_meaning (Some l) regs = form_meaning l.form regs
-
--- the first action from a line on. Each instruction costs 1, and one that would begin at fuel 0 is the trap `fuel`
-abbrev pub settle : Lines → ℕ → ℕ → Registers → Settled
-settle lines zero at regs = Before (action.Trap cause.Fuel) 0 at regs
-settle lines (suc fuel) at regs = go_on (line_meaning (slice_get lines at) regs) (settle lines fuel (at + 1)) (suc fuel) at regs
+abbrev pub behind_heads : Domain → Stand → Stand
+behind_heads d s = through (drop s.at d.lines) s.at s.regs

@@ -1,11 +1,11 @@
 -- Rules 50 and 51: the scripts of the clients.
-use Rattle.std.specs.Prelude.{◌≡◌, ℕ, ◌==◌, nat_le, ◌⊎◌, ◌&&◌, not, Bool, true, false, List, [], ◌∷◌, length, Option, Some, None, slice_get, take, if◌then◌else◌}
+use Rattle.std.specs.Prelude.{◌≡◌, ℕ, ◌==◌, nat_le, ◌⊎◌, ◌&&◌, not, Bool, true, false, List, [], ◌∷◌, length, Option, Some, None, take, unwrap_or, if◌then◌else◌}
+use Rattle.std.specs.Option.{option_map}
 use Rattle.std.specs.List.{list_all, list_any, flat_map}
 use Rattle.rl_defs.specs.declared.bundle.ScriptArgText.{ScriptArgText}
 use Rattle.rl_defs.specs.declared.bundle.ScriptArgText.TheVariants as arg
 use Rattle.rl_defs.specs.declared.bundle.ClientLine.{ClientLine}
 use Rattle.rl_defs.specs.declared.bundle.ClientLine.TheVariants as client
-use Rattle.rl_defs.specs.declared.tables.Width.{Width}
 use Rattle.rl_defs.specs.declared.tables.Width.TheVariants as width
 use Rattle.rl_defs.specs.declared.tables.Kind.{Kind}
 use Rattle.rl_defs.specs.declared.tables.Kind.TheVariants as kind
@@ -13,29 +13,17 @@ use Rattle.rl_defs.specs.declared.tables.MethodRow.{MethodRow}
 use Rattle.rl_defs.specs.declared.tables.Tables.{Tables}
 use Rattle.rl_defs.specs.Words.{same_bytes}
 use Rattle.rl_defs.specs.Refusals.{Failing}
-use Rattle.rl_defs.specs.Domains.{Lines, trait_name}
+use Rattle.rl_defs.specs.Domains.{trait_name}
 use Rattle.rl_defs.specs.CodeNames.{struct_number, trait_number, cells_of, method_named, params_of, results_of}
 use Rattle.rl_defs.specs.NativeShapes.{is_number}
-use Rattle.rl_defs.specs.Instructions.{fits_width}
+use Rattle.rl_defs.specs.Widths.{bits, fits_width}
 use Rattle.rl_defs.specs.declared.bundle.Bundle.{Bundle}
-use Rattle.rl_defs.specs.BundleNames.{ClientLines, scripts_of, domain_of_load, lines_of_domain, names_used}
-use Rattle.rl_defs.specs.PlanRules.{load_of_target}
+use Rattle.rl_defs.specs.BundleNames.{ClientLines, target_lines}
+use Rattle.rl_defs.specs.NameRules.{CommandAt, names_used}
 
--- the number of the trait of a target
-abbrev pub trait_of_lines : Tables → Option Lines → ℕ
-trait_of_lines tables None = 0
-trait_of_lines tables (Some lines) = trait_number tables (trait_name lines)
-
-abbrev pub lines_of_load : Bundle → Option (List ℕ) → Option Lines
-lines_of_load b None = None
-lines_of_load b (Some domain) = lines_of_domain b domain
-
-abbrev pub domain_of : Bundle → Option (List ℕ) → Option (List ℕ)
-domain_of b None = None
-domain_of b (Some load) = domain_of_load b load
-
+-- the number of the trait of a target, 0 where there is no such target
 abbrev pub target_trait : Tables → Bundle → List ℕ → ℕ
-target_trait tables b target = trait_of_lines tables (lines_of_load b (domain_of b (load_of_target b target)))
+target_trait tables b target = unwrap_or (option_map (λ lines. trait_number tables (trait_name lines)) (target_lines b target)) 0
 
 -- the method that a call names
 abbrev pub method_of_call : Tables → Bundle → List ℕ → List ℕ → Option MethodRow
@@ -85,14 +73,6 @@ numbers_fit (k ∷ cells) (n ∷ numbers) = fits_cell k n && numbers_fit cells n
 -- rule 50: all cells are `u8`, and at least as many as the bytes
 abbrev pub bytes_fit : List Kind → List ℕ → Bool
 bytes_fit cells bytes = list_all (is_number width.W8) cells && nat_le (length bytes) (length cells)
-
--- how many bits a number of a width has
-abbrev pub bits : Width → ℕ
-bits width.Bool = 1
-bits width.W8 = 8
-bits width.W16 = 16
-bits width.W32 = 32
-bits width.W64 = 64
 
 -- what a name is bound to suits a parameter: a number that is no wider, or an object of the struct
 abbrev pub name_suits : Kind → Option Kind → Bool
@@ -144,15 +124,6 @@ keeps_kinds tables b bound (client.Call target method args names) =
 keeps_kinds tables b bound (client.Show name) = is_object (kind_of bound name)
 keeps_kinds tables b bound (client.Drop name) = is_object (kind_of bound name)
 keeps_kinds tables b bound _ = true
-
--- a command of a script, with the lines before it
-pub record CommandAt (b : Bundle) (n : ℕ) : Type 0 where
-  pub script : ClientLines
-  pub number : ℕ
-  pub client : slice_get (scripts_of b.clients.lines) number ≡ Some script
-  pub place : ℕ
-  pub form : ClientLine
-  pub here : slice_get script place ≡ Some (record { line = n; form = form })
 
 -- rule 50: a command is given something of another kind, another count, or too much
 pub record HasOtherKinds (tables : Tables) (b : Bundle) (n : ℕ) : Type 0 where

@@ -75,7 +75,9 @@ is_text_byte c = (nat_le 0x20 c && nat_le c 0x7e) && not (c == 34)
 
 -- decimal digits, or `0x` and hexadecimal digits of either case, of a value that fits 64 bits
 abbrev pub IsNumber : List ℕ → ℕ → Type 0
-IsNumber bytes n = (n < 2 ^ 64) × ((IsNumeral 10 bytes × (n ≡ digits_value 10 bytes)) ⊎ ((digits : List ℕ) × (bytes ≡ codes "0x" ++ digits) × IsNumeral 16 digits × (n ≡ digits_value 16 digits)))
+IsNumber bytes n =
+    (n < 2 ^ 64) × ((IsNumeral 10 bytes × (n ≡ digits_value 10 bytes))
+    ⊎ ((digits : List ℕ) × (bytes ≡ codes "0x" ++ digits) × IsNumeral 16 digits × (n ≡ digits_value 16 digits)))
 
 -- the bytes of a token
 abbrev pub IsToken : Token → List ℕ → Type 0
@@ -95,8 +97,7 @@ abbrev pub EndsBefore : Token → List ℕ → Type 0
 EndsBefore (Name word) rest = NoWordByteFirst rest
 EndsBefore (Reserved key) rest = NoWordByteFirst rest
 EndsBefore (Number n) rest = NoWordByteFirst rest
-EndsBefore (Text inner) rest = Unit {0}
-EndsBefore (Sign mark) rest = Unit {0}
+EndsBefore _ rest = Unit {0}
 
 -- nothing, or a comment
 abbrev pub IsComment : List ℕ → Type 0

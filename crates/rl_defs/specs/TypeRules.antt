@@ -12,7 +12,7 @@ use Rattle.rl_defs.specs.declared.idl.TypeText.{TypeText}
 use Rattle.rl_defs.specs.declared.tables.Kind.{Kind}
 use Rattle.rl_defs.specs.declared.tables.Kind.TheVariants as kind
 use Rattle.rl_defs.specs.declared.tables.StructRow.{StructRow}
-use Rattle.rl_defs.specs.Refusals.{Failing}
+use Rattle.rl_defs.specs.Refusals.{Failing, HasLine}
 use Rattle.rl_defs.specs.Interfaces.{Lines, StructText, structs_of, types_of, types_at, result_types}
 use Rattle.rl_defs.specs.Flattening.{is_refused, Flattens}
 use Rattle.rl_defs.specs.Holding.{IsEndless, HoldsRRef}
@@ -40,11 +40,6 @@ has_bad_type (form.Field name ty) = is_bad_field ty
 has_bad_type (form.Method name params result) = list_any (λ p. is_bad_value p.ty) params || list_any is_bad_value (result_types result)
 has_bad_type _ = false
 
--- the line of this number has this form
-pub record LineIs (lines : Lines) (n : ℕ) (line : IdlLine) : Type 0 where
-  pub place : ℕ
-  pub here : slice_get lines place ≡ Some (record { line = n; form = line })
-
 -- the struct of this number begins at the line of this number
 pub record StructAt (lines : Lines) (n s : ℕ) : Type 0 where
   pub text : StructText
@@ -54,7 +49,7 @@ pub record StructAt (lines : Lines) (n s : ℕ) : Type 0 where
 -- rule 10: a field, parameter or result holds a type that may not cross, or a field or array holds a lent object or an interface
 pub record HasBadType (lines : Lines) (n : ℕ) : Type 0 where
   pub line : IdlLine
-  pub here : LineIs lines n line
+  pub here : HasLine lines n line
   pub bad : IsTrue (has_bad_type line)
 
 -- rule 11: by fields outside RRef the struct reaches one that holds itself
@@ -87,7 +82,11 @@ pub record HasNestedRRef (lines : Lines) (n : ℕ) : Type 0 where
 
 -- which of the rules 10 to 13 fail at which lines
 abbrev pub FailsTypes : Idl → Failing
-FailsTypes idl n rule = ((rule ≡ 10) × HasBadType idl.lines n) ⊎ (((rule ≡ 11) × HoldsItself idl.lines n) ⊎ (((rule ≡ 12) × HasTooManyCells idl.lines n) ⊎ ((rule ≡ 13) × HasNestedRRef idl.lines n)))
+FailsTypes idl n rule =
+    ((rule ≡ 10) × HasBadType idl.lines n)
+    ⊎ (((rule ≡ 11) × HoldsItself idl.lines n)
+    ⊎ (((rule ≡ 12) × HasTooManyCells idl.lines n)
+    ⊎ ((rule ≡ 13) × HasNestedRRef idl.lines n)))
 
 -- the row of a struct: its name, and what its fields flatten to
 pub record IsStructRow (lines : Lines) (text : StructText) (row : StructRow) : Type 0 where

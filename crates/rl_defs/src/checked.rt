@@ -2,8 +2,9 @@
 ghost use Rattle.std.specs.Prelude.{◌≡◌, ℕ, ◌<◌, length, slice_get, Some};
 ghost use Rattle.rl_defs.specs.declared.code.DomainLine.TheVariants as line;
 ghost use Rattle.rl_defs.specs.declared.code.Instr.{Instr as AnInstr};
-ghost use Rattle.rl_defs.specs.CodeFits.{KeepsRules};
-ghost use Rattle.rl_defs.specs.LineRows.{Names, LeadsHere, LeadsToLabel, entry_at};
+ghost use Rattle.rl_defs.specs.CodeRules.{KeepsRules};
+ghost use Rattle.rl_defs.specs.LineRows.{Names, LeadsHere, LeadsToLabel};
+ghost use Rattle.rl_defs.specs.CodeNames.{entry_at};
 ghost use Rattle.rl_defs.specs.Checked.{IsChecked};
 
 use crate::bundle::Numbered;
@@ -54,7 +55,8 @@ impl Model for CheckedDomain {
 
     ghost view = { λ d. record { lines = d.text.lines; tables = d.tables } };
 
-    ghost invariant = { λ d. Keeps (record { lines = d.text.lines; tables = d.tables }) d.rows.items d.emptied.items d.entries.items };
+    ghost invariant = { λ d. Keeps (record { lines = d.text.lines; tables = d.tables })
+        d.rows.items d.emptied.items d.entries.items };
 }
 
 impl CheckedDomain {
@@ -97,7 +99,9 @@ impl CheckedDomain {
     /// What an instruction names.
     pub fn row(&self, place: usize) -> LineRow
         requires { place < length self.now.lines }
-        ensures { (k : ℕ) (i : AnInstr) → slice_get self.now.lines place ≡ Some (record { line = k; form = line.Code i }) → Names self.now place i result.number result.of result.label }
+        ensures { (k : ℕ) (i : AnInstr)
+            → slice_get self.now.lines place ≡ Some (record { line = k; form = line.Code i })
+            → Names self.now place i result.number result.of result.label }
     {
         self.rows[place]
     }
@@ -114,14 +118,15 @@ impl CheckedDomain {
     /// Where control stands that goes to the label of an instruction, and the registers that are emptied on the way.
     pub fn jump(&self, place: usize) -> (u32, &[Register])
         requires { place < length self.now.lines }
-        ensures { (k : ℕ) (i : AnInstr) → slice_get self.now.lines place ≡ Some (record { line = k; form = line.Code i }) → LeadsToLabel self.now place i result.0 result.1.now }
+        ensures { (k : ℕ) (i : AnInstr)
+            → slice_get self.now.lines place ≡ Some (record { line = k; form = line.Code i })
+            → LeadsToLabel self.now place i result.0 result.1.now }
     {
         let way = self.rows[place].jump;
         (way.line, &self.emptied[way.from as usize..way.to as usize])
     }
 
-    /// The place of the first line of the function for a method of the domain's trait, by the method's number. It is 0 where there
-    /// is no such method.
+    /// The place of the first line of the function for a method of the domain's trait, by the method's number.
     pub fn entry(&self, method: usize) -> u32
         ensures { (place : ℕ) → entry_at self.now method ≡ Some place → result ≡ place }
     {

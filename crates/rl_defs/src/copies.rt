@@ -1,45 +1,44 @@
 //! Equal copies of what takes memory.
 ghost use Rattle.std.specs.Prelude.{◌≡◌, IfOk};
 
-use crate::Memory;
 use crate::list::List;
 use crate::name::Name;
 use crate::tables::{Kind, MethodRow, StructRow, Tables, TraitRow};
-use std::alloc::Global;
+use std::alloc::{AllocError, Global};
 
 /// A type whose values can be copied, where there is memory for the copy.
 pub trait Copies: Sized {
     /// A value equal to this one.
-    fn copy(&self, alloc: Global) -> Result<Self, Memory>
+    fn copy(&self, alloc: Global) -> Result<Self, AllocError>
         ensures { IfOk result (λ x. x ≡ self.now) };
 }
 
 impl Copies for u32 {
-    fn copy(&self, _alloc: Global) -> Result<u32, Memory> {
+    fn copy(&self, _alloc: Global) -> Result<u32, AllocError> {
         Ok(*self)
     }
 }
 
 impl Copies for u64 {
-    fn copy(&self, _alloc: Global) -> Result<u64, Memory> {
+    fn copy(&self, _alloc: Global) -> Result<u64, AllocError> {
         Ok(*self)
     }
 }
 
 impl Copies for Kind {
-    fn copy(&self, _alloc: Global) -> Result<Kind, Memory> {
+    fn copy(&self, _alloc: Global) -> Result<Kind, AllocError> {
         Ok(*self)
     }
 }
 
 impl Copies for Name {
-    fn copy(&self, _alloc: Global) -> Result<Name, Memory> {
+    fn copy(&self, _alloc: Global) -> Result<Name, AllocError> {
         Ok(*self)
     }
 }
 
 impl<T: Copies + Drop> Copies for List<T> {
-    fn copy(&self, alloc: Global) -> Result<List<T>, Memory> {
+    fn copy(&self, alloc: Global) -> Result<List<T>, AllocError> {
         let mut list = List::new(alloc);
         'items: for item in self.as_slice() {
             list.push(item.copy(alloc)?)?;
@@ -49,7 +48,7 @@ impl<T: Copies + Drop> Copies for List<T> {
 }
 
 impl Copies for StructRow {
-    fn copy(&self, alloc: Global) -> Result<StructRow, Memory> {
+    fn copy(&self, alloc: Global) -> Result<StructRow, AllocError> {
         Ok(StructRow {
             name: self.name,
             flat: self.flat.copy(alloc)?,
@@ -58,7 +57,7 @@ impl Copies for StructRow {
 }
 
 impl Copies for MethodRow {
-    fn copy(&self, alloc: Global) -> Result<MethodRow, Memory> {
+    fn copy(&self, alloc: Global) -> Result<MethodRow, AllocError> {
         Ok(MethodRow {
             name: self.name,
             idempotent: self.idempotent,
@@ -69,7 +68,7 @@ impl Copies for MethodRow {
 }
 
 impl Copies for TraitRow {
-    fn copy(&self, alloc: Global) -> Result<TraitRow, Memory> {
+    fn copy(&self, alloc: Global) -> Result<TraitRow, AllocError> {
         Ok(TraitRow {
             name: self.name,
             methods: self.methods.copy(alloc)?,
@@ -78,7 +77,7 @@ impl Copies for TraitRow {
 }
 
 impl Copies for Tables {
-    fn copy(&self, alloc: Global) -> Result<Tables, Memory> {
+    fn copy(&self, alloc: Global) -> Result<Tables, AllocError> {
         Ok(Tables {
             structs: self.structs.copy(alloc)?,
             traits: self.traits.copy(alloc)?,

@@ -1,9 +1,12 @@
 //! A load: what an accepted bundle stands for.
+ghost use Rattle.std.specs.Prelude.{◌≡◌};
+ghost use Rattle.rl_defs.specs.Valid.{Valid};
 
 use crate::checked::CheckedDomain;
 use crate::list::List;
 use crate::name::Name;
 use crate::tables::SharedTables;
+use std::marker::Model;
 
 /// An argument of a client's call. A script name is its place among the names that the client's commands bind, from 0.
 #[derive(Clone, Copy, Debug, PartialEq, Eq)]
@@ -74,10 +77,9 @@ pub struct ClientRow {
     pub commands: List<Command>,
 }
 
-/// What an accepted bundle stands for. Loads are numbered from 1, shadows on after them: these numbers are the targets. Clients
-/// are numbered from 1.
+/// The rows of a load. Loads are numbered from 1, shadows on after them: these numbers are the targets. Clients are numbered from 1.
 #[derive(Debug, Drop)]
-pub struct Load {
+pub struct LoadRows {
     pub tables: SharedTables,
     pub domains: List<CheckedDomain>,
     pub loads: List<LoadRow>,
@@ -91,4 +93,39 @@ pub struct Load {
     pub device_load: u32,
     /// How many blocks the device has.
     pub blocks: u32,
+}
+
+/// A load whose rows are valid: what an accepted bundle stands for. Contracts see its rows.
+#[derive(Debug, Drop)]
+pub struct Load {
+    rows: LoadRows,
+}
+
+impl Model for Load {
+    ghost use Rattle.rl_defs.specs.declared.load.LoadRows.{LoadRows as Rows};
+    ghost use Rattle.rl_defs.specs.Valid.{Valid as IsValid};
+
+    ghost Value = { Rows };
+
+    ghost view = { λ l. l.rows };
+
+    ghost invariant = { λ l. IsValid l.rows };
+}
+
+impl Load {
+    /// The load of valid rows.
+    pub fn new(rows: LoadRows) -> Load
+        requires { Valid rows }
+        ensures { result ≡ rows }
+    {
+        Load { rows }
+    }
+
+    /// The rows, which are valid.
+    pub fn rows(&self) -> &LoadRows
+        ensures value { result.now ≡ self.now }
+        ensures valid { Valid self.now }
+    {
+        &self.rows
+    }
 }

@@ -3,15 +3,15 @@ ghost use Rattle.std.specs.Prelude.{◌≡◌, ◌+◌, ◌<◌, ◌≤◌, ◌^
 ghost use Rattle.std.specs.List.{position_or_len};
 ghost use Rattle.std.specs.Option.{option_copied};
 ghost use Rattle.rl_defs.specs.Domains as rows;
-ghost use Rattle.rl_defs.specs.Domains.{begins_function};
+ghost use Rattle.rl_defs.specs.Domains.{begins_function, names_native};
 ghost use Rattle.rl_defs.specs.Words.{same_bytes};
 
 use crate::bundle::Numbered;
 use crate::code::DomainLine;
-use crate::load::{Load, LoadRow, ShadowRow};
+use crate::load::{LoadRow, LoadRows, ShadowRow};
 use crate::tables::{MethodRow, Tables, TraitRow};
 
-impl Load {
+impl LoadRows {
     /// The load with this number, from 1.
     pub fn load_row(&self, number: u32) -> Option<&LoadRow>
         ensures { option_copied result ≡ rows.load_row self.now number }
@@ -22,15 +22,15 @@ impl Load {
         self.loads.get(number as usize - 1)
     }
 
-    /// The shadow with this target's number. The first comes after the last load.
+    /// The shadow with this target's number. They are numbered on after the last load.
     pub fn shadow_row(&self, target: u32) -> Option<&ShadowRow>
         ensures { option_copied result ≡ rows.shadow_row self.now target }
     {
-        if target == 0 {
+        let place = (target as usize).saturating_sub(self.loads.len());
+        if place == 0 {
             return None;
         }
-        self.shadows
-            .get((target as usize - 1).saturating_sub(self.loads.len()))
+        self.shadows.get(place - 1)
     }
 
     /// The load of a target: a load is its own, and a shadow has the one that it stands for.
@@ -165,4 +165,17 @@ fn begins_function(form: &DomainLine, name: &[u8]) -> bool
         DomainLine::Function(has) => has.bytes() == name,
         _ => false,
     }
+}
+
+/// Whether a domain has a native body.
+pub fn is_native(lines: &[Numbered<DomainLine>]) -> bool
+    ensures { result ≡ rows.is_native lines.now }
+{
+    lines.iter().any(|line| names_native(&line.form))
+}
+
+fn names_native(form: &DomainLine) -> bool
+    ensures { result ≡ names_native form.now }
+{
+    matches!(form, DomainLine::Native(_))
 }

@@ -1,10 +1,9 @@
 //! Interfaces as rows: structs as the kinds of their cells, and traits as the kinds of their methods.
 ghost use Rattle.std.specs.Prelude.{◌≡◌, IfOk};
 
-use crate::Memory;
 use crate::list::List;
 use crate::name::Name;
-use std::alloc::Global;
+use std::alloc::{AllocError, Global};
 use std::marker::Model;
 use std::sync::Arc;
 
@@ -77,23 +76,19 @@ impl Model for SharedTables {
 
 impl SharedTables {
     /// These tables, for one owner.
-    pub fn new(alloc: Global, tables: Tables) -> Result<SharedTables, Memory>
+    pub fn new(alloc: Global, tables: Tables) -> Result<SharedTables, AllocError>
         ensures { IfOk result (λ t. t ≡ tables) }
     {
-        match Arc::new(alloc, tables) {
-            Ok(tables) => Ok(SharedTables { tables }),
-            Err(_) => Err(Memory),
-        }
+        let tables = Arc::new(alloc, tables)?;
+        Ok(SharedTables { tables })
     }
 
-    /// The same tables, for one owner more. `Memory` where there are as many owners as can be counted.
-    pub fn share(&self) -> Result<SharedTables, Memory>
+    /// The same tables, for one owner more. `AllocError` where there are as many owners as can be counted.
+    pub fn share(&self) -> Result<SharedTables, AllocError>
         ensures { IfOk result (λ t. t ≡ self.now) }
     {
-        match self.tables.clone() {
-            Ok(tables) => Ok(SharedTables { tables }),
-            Err(_) => Err(Memory),
-        }
+        let tables = self.tables.clone()?;
+        Ok(SharedTables { tables })
     }
 
     /// The tables.

@@ -1,6 +1,7 @@
 -- What is bound to the imports of a load.
+use Rattle.std.specs.Option.{option_and_then}
 use Rattle.std.proofs.Common.{◌≡◌, ℕ, zero, suc, ◌<◌, ◌⊎◌, inl, inr, Bool, true, false, cond, ◌&&◌, List, [], ◌∷◌, ◌++◌, map, length, Option, Some, None, refl, sym, ap, subst, ◌∙◌, arith}
-use Rattle.std.specs.Prelude.{slice_get}
+use Rattle.std.specs.Prelude.{slice_get, unwrap_or}
 use Rattle.std.specs.List.{flat_map}
 use Rattle.std.proofs.lemmas.Bool.{cases_lt}
 use Rattle.std.proofs.lemmas.List.{length-map}
@@ -10,24 +11,22 @@ use Rattle.rl_defs.specs.declared.bundle.PlanLine.{PlanLine}
 use Rattle.rl_defs.specs.declared.bundle.PlanLine.TheVariants as plan
 use Rattle.rl_defs.specs.declared.code.DomainLine.{DomainLine}
 use Rattle.rl_defs.specs.declared.code.DomainLine.TheVariants as line
+use Rattle.rl_defs.specs.declared.code.DomainText.{DomainText}
 use Rattle.rl_defs.specs.declared.tables.Tables.{Tables}
-use Rattle.rl_defs.specs.declared.load.Load.{Load}
 use Rattle.rl_defs.specs.declared.load.LoadRow.{LoadRow}
 use Rattle.rl_defs.specs.Words.{same_bytes}
 use Rattle.rl_defs.specs.Interfaces.{place_of}
 use Rattle.rl_defs.specs.DomainValue.{Domain}
 use Rattle.rl_defs.specs.Domains.{Lines, load_of_target, trait_name}
 use Rattle.rl_defs.specs.CodeNames.{Declared, imports, import_of_form, place_in, type_at, type_of, trait_number, domain_trait}
-use Rattle.rl_defs.specs.BundleNames.{given_by, names_of, load_names, load_given, target_names, target_given, target_used, bind_given, import_given}
-use Rattle.rl_defs.specs.PlanRules.{LoadIs}
-use Rattle.rl_defs.specs.Standing.{load_of, bound_in, bound_to, binds_of, target_number, loads_of}
-use Rattle.rl_defs.specs.Acceptance.{Valid}
-use Rattle.rl_defs.specs.Machine.NativeFits.{is_target, trait_if}
-use Rattle.rl_defs.specs.Machine.Seen.{domain_of_load, domain_in, binds, binds_in}
-use Rattle.valid_loads.specs.PlanFacts.{BindsStand}
-use Rattle.valid_loads.proofs.Lists.{comes, goes, map_get, get_map, first_of_some, and_left, and_right}
+use Rattle.rl_defs.specs.BundleNames.{given_by, names_of, load_names, load_given, target_names, target_given, bind_given, import_given, load_lines, lines_of_domain}
+use Rattle.rl_defs.specs.NameRules.{target_used}
+use Rattle.rl_defs.specs.LoadOf.{load_of, bound_in, bound_to, binds_of, target_number, loads_of}
+use Rattle.rl_defs.specs.Rows.{is_target, trait_if}
+use Rattle.rl_defs.specs.Rows.{domain_of_load, domain_in, binds, binds_in}
+use Rattle.rl_defs.proofs.Lists.{comes, goes, map_get, get_map, first_of_some, and_left, and_right}
 use Rattle.valid_loads.proofs.Names.{Apart, given_apart, apart_among, apart_place, names_flat, place_there, same_name, same_self, only_name, declared_by}
-use Rattle.valid_loads.proofs.Rules.{Kept, of_valid, once, declared}
+use Rattle.valid_loads.proofs.Rules.{Kept, once, declared}
 use Rattle.valid_loads.proofs.Rows.{LineOf, LoadText, load_texts, load_at, row_at, name_at, load_line, line_is}
 use Rattle.valid_loads.proofs.Domains.{OfText, of_text, is_loaded}
 use Rattle.valid_loads.proofs.Texts.{plan_named, name_no_dot, parted}
@@ -35,14 +34,16 @@ use Rattle.valid_loads.proofs.TargetNames.{TargetNamed, target_named}
 
 -- ---- names of loads and of imports are apart
 
-load_among : (f : PlanLine) → (load_given f ≡ []) ⊎ (load_given f ≡ target_given f)
+pub load_among : (f : PlanLine) → (load_given f ≡ []) ⊎ (load_given f ≡ target_given f)
 load_among (plan.Load name domain) = inr refl
 load_among f = inl refl
 
+pub targets_apart : (tables : Tables) (b : Bundle) → Kept tables b → Apart (flat_map (λ l. target_given l.form) b.plan.lines)
+targets_apart tables b h = subst Apart (names_flat target_given b.plan.lines) (given_apart (given_by target_given b.plan.lines) (λ n t. once tables b h n (inr (inr (inr (inl (inl t)))))))
+
 pub loads_apart : (tables : Tables) (b : Bundle) → Kept tables b → Apart (load_names b)
 loads_apart tables b h =
-    let targets = subst Apart (names_flat target_given b.plan.lines) (given_apart (given_by target_given b.plan.lines) (λ n t. once tables b h n (inr (inr (inr (inl (inl t))))))) in
-    subst Apart (sym (names_flat load_given b.plan.lines)) (apart_among (λ (l : Numbered PlanLine). target_given l.form) (λ (l : Numbered PlanLine). load_given l.form) (λ l. load_among l.form) b.plan.lines targets)
+    subst Apart (sym (names_flat load_given b.plan.lines)) (apart_among (λ (l : Numbered PlanLine). target_given l.form) (λ (l : Numbered PlanLine). load_given l.form) (λ l. load_among l.form) b.plan.lines (targets_apart tables b h))
 
 abbrev pub declared_names : List Declared → List (List ℕ)
 declared_names ds = map (λ d. d.name) ds
@@ -55,10 +56,10 @@ import_names : (lines : Lines) → flat_map (λ l. import_given l.form) lines �
 import_names [] = refl
 import_names (l ∷ ls) = ap (λ (ns : List (List ℕ)). import_given l.form ++ ns) (import_names ls) ∙ import_form l.form (imports ls)
 
-imports_apart : (tables : Tables) (b : Bundle) (k : ℕ) (t : LoadText) → Kept tables b → (d : OfText tables b k t) → Apart (declared_names (imports d.text.lines))
-imports_apart tables b k t h d =
-    subst Apart (names_flat import_given d.text.lines ∙ import_names d.text.lines)
-    (given_apart (given_by import_given d.text.lines) (λ n g. once tables b h n (inr (inl (record { lines = d.text.lines; domain = record { place = d.place; here = d.here }; twice = inr (inl g) })))))
+pub imports_apart : (tables : Tables) (b : Bundle) → Kept tables b → (place : ℕ) (text : DomainText) → slice_get b.domains place ≡ Some text → Apart (declared_names (imports text.lines))
+imports_apart tables b h place text here =
+    subst Apart (names_flat import_given text.lines ∙ import_names text.lines)
+    (given_apart (given_by import_given text.lines) (λ n g. once tables b h n (inr (inl (inr (inl (record { number = place; names = given_by import_given text.lines; here = get_map (λ (d : DomainText). given_by import_given d.lines) b.domains place text here; twice = g })))))))
 
 -- ---- what is bound
 
@@ -144,8 +145,8 @@ is_bound tables b k j t i h e d at x number =
     let to = target_named tables b bound.target p.0 h p.1 in
     let is : suc to.place ≡ x = sym to.number ∙ sym (ap (target_number b) bound.is) ∙ number in
     let place = apart_place (load_names b) k t.name (loads_apart tables b h) (name_at b k t e) in
-    let load : LoadIs b t.name d.text.lines = record { domain = t.domain; loaded = is_loaded b t.name k t place e; text = d.lines } in
-    let import = apart_place (declared_names (imports d.text.lines)) j i.name (imports_apart tables b k t h d) (get_map (λ (y : Declared). y.name) (imports d.text.lines) j i at) in
+    let load : load_lines b t.name ≡ Some d.text.lines = ap (option_and_then (lines_of_domain b)) (is_loaded b t.name k t place e) ∙ d.lines in
+    let import = apart_place (declared_names (imports d.text.lines)) j i.name (imports_apart tables b h d.place d.text d.here) (get_map (λ (y : Declared). y.name) (imports d.text.lines) j i at) in
     let ty : type_at (imports d.text.lines) (place_in i.name (imports d.text.lines)) ≡ i.ty = ap (type_at (imports d.text.lines)) import ∙ ap type_of at in
     let same : i.ty ≡ trait_name to.loaded.of.text.lines = only_name (trait_name to.loaded.of.text.lines) i.ty (λ none. h.plan bound.line.number 41 (inr (inl (
       refl,
@@ -156,11 +157,9 @@ is_bound tables b k j t i h e d at x number =
         line = record { place = bound.line.place; here = bound.line.here };
         lines = d.text.lines;
         binds = load;
-        target_load = to.load;
-        stands_for = to.stands_for;
-        target_lines = to.loaded.of.text.lines;
-        bound = to.loaded.is;
-        other = ap (λ (n : List ℕ). place_of (trait_name to.loaded.of.text.lines) (n ∷ [])) ty ∙ none;
+        others = to.loaded.of.text.lines;
+        bound = ap (option_and_then (load_lines b)) to.stands_for ∙ to.loaded.is;
+        differ = λ is. none (is ∙ ty);
       },
     )))) in
     let before : to.loaded.place < k = elim (cases_lt to.loaded.place k) [
@@ -190,9 +189,9 @@ is_bound tables b k j t i h e d at x number =
     })
 
 row_binds : (tables : Tables) (b : Bundle) (k : ℕ) (t : LoadText) → slice_get (load_texts b) k ≡ Some t → (d : OfText tables b k t) → binds (load_of tables b) (suc k) ≡ map (λ import. target_number b (bound_to b t.name import)) (declared_names (imports d.text.lines))
-row_binds tables b k t e d = ap binds_in (row_at b k t e) ∙ ap (binds_of b t.name) d.lines
+row_binds tables b k t e d = ap binds_in (row_at b k t e) ∙ ap (λ (o : Option Lines). binds_of b t.name (unwrap_or o [])) d.lines
 
-each_bound : (tables : Tables) (b : Bundle) → Kept tables b → (k j x : ℕ) → slice_get (binds (load_of tables b) (suc k)) j ≡ Some x → IsBound tables b k j x
+pub each_bound : (tables : Tables) (b : Bundle) → Kept tables b → (k j x : ℕ) → slice_get (binds (load_of tables b) (suc k)) j ≡ Some x → IsBound tables b k j x
 each_bound tables b h k j x e = by (slice_get (loads_of b) k) refl where
   by : (o : Option LoadRow) → slice_get (loads_of b) k ≡ o → IsBound tables b k j x
   by None none = let bad : None ≡ Some x = sym (ap (λ (o : Option LoadRow). slice_get (binds_in o) j) none) ∙ e in absurd cc
@@ -203,7 +202,7 @@ each_bound tables b h k j x e = by (slice_get (loads_of b) k) refl where
       let i = map_get (λ (y : Declared). y.name) (imports d.text.lines) j m.0 m.1 in
       is_bound tables b k j t.0 i.0 h t.1 d i.1 x (ap (λ (n : List ℕ). target_number b (bound_to b t.0.name n)) i.2 ∙ m.2)
 
-count : (tables : Tables) (b : Bundle) → Kept tables b → (k : ℕ) → length (binds (load_of tables b) k) ≡ length (imports (domain_of_load (load_of tables b) k).lines)
+pub count : (tables : Tables) (b : Bundle) → Kept tables b → (k : ℕ) → length (binds (load_of tables b) k) ≡ length (imports (domain_of_load (load_of tables b) k).lines)
 count tables b h zero = refl
 count tables b h (suc k) = by (slice_get (loads_of b) k) refl where
   by : (o : Option LoadRow) → slice_get (loads_of b) k ≡ o → length (binds (load_of tables b) (suc k)) ≡ length (imports (domain_of_load (load_of tables b) (suc k)).lines)
@@ -215,23 +214,3 @@ count tables b h (suc k) = by (slice_get (loads_of b) k) refl where
       ∙ length-map (declared_names (imports d.text.lines)) (λ (import : List ℕ). target_number b (bound_to b t.0.name import))
       ∙ length-map (imports d.text.lines) (λ (y : Declared). y.name)
       ∙ sym (ap (λ (y : Domain). length (imports y.lines)) d.domain)
-
-no_binds : (tables : Tables) (b : Bundle) (j x : ℕ) → slice_get (binds (load_of tables b) 0) j ≡ Some x → ⊥
-no_binds tables b j x e = absurd cc
-
-stand : (tables : Tables) (b : Bundle) → Kept tables b → BindsStand (load_of tables b)
-stand tables b h = record { count = count tables b h; target = target; trait = trait; before = before } where
-  target : (k j x : ℕ) → slice_get (binds (load_of tables b) k) j ≡ Some x → is_target (load_of tables b) x ≡ true
-  target zero j x e = absurd (no_binds tables b j x e)
-  target (suc k) j x e = (each_bound tables b h k j x e).target
-
-  trait : (k j x : ℕ) → slice_get (binds (load_of tables b) k) j ≡ Some x → trait_if (load_of tables b) (is_target (load_of tables b) x) x ≡ trait_number tables (type_at (imports (domain_of_load (load_of tables b) k).lines) (Some j))
-  trait zero j x e = absurd (no_binds tables b j x e)
-  trait (suc k) j x e = (each_bound tables b h k j x e).trait
-
-  before : (k j x : ℕ) → slice_get (binds (load_of tables b) k) j ≡ Some x → load_of_target (load_of tables b) x < k
-  before zero j x e = absurd (no_binds tables b j x e)
-  before (suc k) j x e = (each_bound tables b h k j x e).before
-
-pub binds_stand : (L : Load) → Valid L → BindsStand L
-binds_stand = of_valid BindsStand stand

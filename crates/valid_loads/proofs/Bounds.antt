@@ -11,15 +11,13 @@ use Rattle.rl_defs.specs.declared.bundle.PlanLine.TheVariants as plan
 use Rattle.rl_defs.specs.declared.bundle.ClientLine.{ClientLine}
 use Rattle.rl_defs.specs.declared.bundle.ClientLine.TheVariants as client
 use Rattle.rl_defs.specs.declared.tables.Tables.{Tables}
-use Rattle.rl_defs.specs.declared.load.Load.{Load}
-use Rattle.rl_defs.specs.BundleNames.{Given, ClientLines, given_by, load_names, load_given, load_used, client_names, client_given, client_used, script_before, scripts_of, commands_at}
+use Rattle.rl_defs.specs.BundleNames.{Given, ClientLines, given_by, load_names, load_given, client_names, client_given, script_before, scripts_of, commands_at}
+use Rattle.rl_defs.specs.NameRules.{load_used, client_used}
 use Rattle.rl_defs.specs.PlanRules.{GoesOver}
-use Rattle.rl_defs.specs.Standing.{load_of, load_number, loads_of, number_in, counted, fuel_in, fuel_of, device_in, device_of, blocks_in, blocks_of, order_in, order_of, client_rows, clients_of}
-use Rattle.rl_defs.specs.Acceptance.{Valid}
-use Rattle.valid_loads.specs.PlanFacts.{BoundsStand}
-use Rattle.valid_loads.proofs.Lists.{comes, first_or, list_at, in_list, map_get}
+use Rattle.rl_defs.specs.LoadOf.{load_number, loads_of, number_in, counted, fuel_in, fuel_of, device_in, device_of, blocks_in, blocks_of, order_in, order_of, client_rows, clients_of}
+use Rattle.rl_defs.proofs.Lists.{comes, first_or, list_at, in_list, map_get}
 use Rattle.valid_loads.proofs.Names.{declared_by, names_flat, place_there}
-use Rattle.valid_loads.proofs.Rules.{Kept, of_valid, declared}
+use Rattle.valid_loads.proofs.Rules.{Kept, declared}
 use Rattle.valid_loads.proofs.Rows.{LineOf, line_is, load_count}
 use Rattle.valid_loads.proofs.Targets.{number_there, number_within}
 
@@ -47,7 +45,7 @@ fuel_line tables b h n line = (
   ],
 )
 
-fuel : (tables : Tables) (b : Bundle) → Kept tables b → (1 ≤ fuel_of b) × (fuel_of b ≤ 1000000)
+pub fuel : (tables : Tables) (b : Bundle) → Kept tables b → (1 ≤ fuel_of b) × (fuel_of b ≤ 1000000)
 fuel tables b h = elim (first_or (flat_map (λ (l : Numbered PlanLine). fuel_in l.form) b.plan.lines) 10000) [
   | inl none ↦ (omega (arith, none), omega (arith, none))
   | inr one ↦
@@ -68,7 +66,7 @@ device_one b (plan.Shadow name load restarts) i n e = absurd cc
 device_one b (plan.Serial load) i n e = absurd cc
 device_one b (plan.Order clients) i n e = absurd cc
 
-device : (tables : Tables) (b : Bundle) → Kept tables b → device_of b ≤ length (loads_of b)
+pub device : (tables : Tables) (b : Bundle) → Kept tables b → device_of b ≤ length (loads_of b)
 device tables b h = elim (first_or (flat_map (λ (l : Numbered PlanLine). device_in b l.form) b.plan.lines) 0) [
   | inl none ↦ omega (arith, none)
   | inr one ↦
@@ -89,7 +87,7 @@ blocks_one (plan.Shadow name load restarts) i n e = absurd cc
 blocks_one (plan.Serial load) i n e = absurd cc
 blocks_one (plan.Order clients) i n e = absurd cc
 
-blocks : (tables : Tables) (b : Bundle) → Kept tables b → blocks_of b ≤ 4096
+pub blocks : (tables : Tables) (b : Bundle) → Kept tables b → blocks_of b ≤ 4096
 blocks tables b h = elim (first_or (flat_map (λ (l : Numbered PlanLine). blocks_in l.form) b.plan.lines) 0) [
   | inl none ↦ omega (arith, none)
   | inr one ↦
@@ -134,7 +132,7 @@ order_one b (plan.Bind load import target) i n e = absurd cc
 order_one b (plan.Shadow name load restarts) i n e = absurd cc
 order_one b (plan.Serial load) i n e = absurd cc
 
-order : (tables : Tables) (b : Bundle) → Kept tables b → (k x : ℕ) → slice_get (order_of b) k ≡ Some x → (0 < x) × (x ≤ length (clients_of tables b))
+pub order : (tables : Tables) (b : Bundle) → Kept tables b → (k x : ℕ) → slice_get (order_of b) k ≡ Some x → (0 < x) × (x ≤ length (clients_of tables b))
 order tables b h k x e =
     let c = comes (λ (l : Numbered PlanLine). order_in b l.form) b.plan.lines k x e in
     let d = order_one b c.item.form c.inner x c.there in
@@ -151,18 +149,12 @@ few most gs none = elim (cases_lt most (length gs)) [
   | inr within ↦ within
 ]
 
-few_loads : (tables : Tables) (b : Bundle) → Kept tables b → length (loads_of b) ≤ 64
+pub few_loads : (tables : Tables) (b : Bundle) → Kept tables b → length (loads_of b) ≤ 64
 few_loads tables b h =
     let gs = given_by load_given b.plan.lines in
     omega (arith, few 64 gs (λ n over. h.plan n 46 (inr (inr (inr (inr (inr (inr (refl, inr (inl over))))))))), load_count b, length-map gs (λ (g : Given). g.name))
 
-few_clients : (tables : Tables) (b : Bundle) → Kept tables b → length (clients_of tables b) ≤ 16
+pub few_clients : (tables : Tables) (b : Bundle) → Kept tables b → length (clients_of tables b) ≤ 16
 few_clients tables b h =
     let gs = given_by client_given b.clients.lines in
     omega (arith, few 16 gs (λ n over. h.plan n 46 (inr (inr (inr (inr (inr (inr (refl, inl over)))))))), client_count tables b, length-map gs (λ (g : Given). g.name))
-
-stand : (tables : Tables) (b : Bundle) → Kept tables b → BoundsStand (load_of tables b)
-stand tables b h = record { fuel = fuel tables b h; device = device tables b h; blocks = blocks tables b h; order = order tables b h; loads = few_loads tables b h; clients = few_clients tables b h }
-
-pub bounds_stand : (L : Load) → Valid L → BoundsStand L
-bounds_stand = of_valid BoundsStand stand

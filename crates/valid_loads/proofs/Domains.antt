@@ -1,5 +1,6 @@
 -- The domain of a load.
-use Rattle.std.proofs.Common.{◌≡◌, ℕ, zero, suc, inl, inr, Bool, true, false, cond, List, [], ◌∷◌, ◌++◌, length, Option, Some, None, refl, sym, ap, subst, ◌∙◌, arith}
+use Rattle.std.specs.Option.{option_and_then}
+use Rattle.std.proofs.Common.{◌≡◌, ℕ, suc, inl, inr, Bool, true, false, cond, List, [], ◌∷◌, ◌++◌, length, Option, Some, refl, sym, ap, subst, ◌∙◌, arith}
 use Rattle.std.specs.Prelude.{slice_get, unwrap_or}
 use Rattle.std.specs.List.{flat_map}
 use Rattle.rl_defs.specs.declared.bundle.Numbered.{Numbered}
@@ -8,20 +9,16 @@ use Rattle.rl_defs.specs.declared.code.DomainText.{DomainText}
 use Rattle.rl_defs.specs.declared.code.DomainLine.{DomainLine}
 use Rattle.rl_defs.specs.declared.code.DomainLine.TheVariants as line
 use Rattle.rl_defs.specs.declared.tables.Tables.{Tables}
-use Rattle.rl_defs.specs.declared.load.LoadRow.{LoadRow}
 use Rattle.rl_defs.specs.Interfaces.{place_of}
 use Rattle.rl_defs.specs.Domains.{Lines}
-use Rattle.rl_defs.specs.DomainValue.{Domain}
 use Rattle.rl_defs.specs.DomainParts.{begins_domain, rest_of_domain, domains_of}
-use Rattle.rl_defs.specs.BundleNames.{domain_given, domain_used, domain_names, load_names, domain_lines, lines_of_domain}
-use Rattle.rl_defs.specs.BundleNames.{domain_of_load as domain_of}
-use Rattle.rl_defs.specs.PlanRules.{LoadIs}
-use Rattle.rl_defs.specs.Standing.{load_of, checked_with}
-use Rattle.rl_defs.specs.Machine.Seen.{domain_of_load, domain_in, domain_or_none}
-use Rattle.valid_loads.proofs.Lists.{get_map, list_at, in_list, length_both}
+use Rattle.rl_defs.specs.BundleNames.{domain_given, domains_loaded, domain_names, load_names, domain_lines, lines_of_domain, domain_of_load as domain_of, load_lines}
+use Rattle.rl_defs.specs.LoadOf.{load_of, checked_with}
+use Rattle.rl_defs.specs.Rows.{domain_of_load, domain_in, domain_or_none}
+use Rattle.rl_defs.proofs.Lists.{get_map, list_at, in_list, length_both}
 use Rattle.valid_loads.proofs.Names.{declared_by, names_flat, place_there}
 use Rattle.valid_loads.proofs.Rules.{Kept, declared}
-use Rattle.valid_loads.proofs.Rows.{LoadText, load_texts, load_row_of, load_at, row_at, load_line, domain_at, named_load}
+use Rattle.valid_loads.proofs.Rows.{LoadText, load_texts, load_row_of, row_at, load_line, domain_at, named_load}
 
 -- ---- a domain's lines give one name for a domain
 
@@ -92,7 +89,7 @@ pub record OfText (tables : Tables) (b : Bundle) (k : ℕ) (t : LoadText) : Type
 pub of_text : (tables : Tables) (b : Bundle) (k : ℕ) (t : LoadText) → Kept tables b → slice_get (load_texts b) k ≡ Some t → OfText tables b k t
 of_text tables b k t h e =
     let line = load_line b k t e in
-    let p = declared_by b.plan.lines domain_used (domain_names b) (λ n u. declared tables b h n (inr (inr (inr (inl u))))) line.place _ line.here 0 t.domain refl in
+    let p = declared_by b.plan.lines domains_loaded (domain_names b) (λ n u. declared tables b h n (inr (inr (inr (inl u))))) line.place _ line.here 0 t.domain refl in
     let few = in_list (domain_names b) p.0 t.domain (place_there t.domain (domain_names b) p.0 p.1) in
     let d = list_at b.domains p.0 (omega (arith, few, domain_count tables b h)) in
     let number : (load_row_of b t).domain ≡ p.0 = ap (λ (o : Option ℕ). unwrap_or o 0) p.1 in
@@ -113,17 +110,6 @@ of_text tables b k t h e =
       lines_there : (b : Bundle) (name : List ℕ) (place : ℕ) (d : DomainText) → place_of name (domain_names b) ≡ Some place → slice_get b.domains place ≡ Some d → lines_of_domain b name ≡ Some d.lines
       lines_there b name place d named here = rw (named, here) refl
 
--- what holds of each domain of the bundle, and of no domain, holds of the domain of each load
-pub of_each : (tables : Tables) (b : Bundle) → Kept tables b → (P : Lines → Type 0) → P [] → ((place : ℕ) (text : DomainText) → slice_get b.domains place ≡ Some text → P text.lines) → (k : ℕ) → P (domain_of_load (load_of tables b) k).lines
-of_each tables b h P none each zero = none
-of_each tables b h P none each (suc k) = by (slice_get (load_of tables b).loads k) refl where
-  by : (o : Option LoadRow) → slice_get (load_of tables b).loads k ≡ o → P (domain_of_load (load_of tables b) (suc k)).lines
-  by None e = subst (λ (d : Domain). P d.lines) (sym (ap (domain_in (load_of tables b)) e)) none
-  by (Some l) e =
-      let t = load_at b k l e in
-      let d = of_text tables b k t.0 h t.1 in
-      subst (λ (x : Domain). P x.lines) (sym d.domain) (each d.place d.text d.here)
-
 -- A load by its name: where it stands, and its domain.
 pub record LoadNamed (tables : Tables) (b : Bundle) (name : List ℕ) : Type 0 where
   pub place : ℕ
@@ -131,7 +117,7 @@ pub record LoadNamed (tables : Tables) (b : Bundle) (name : List ℕ) : Type 0 w
   pub text : LoadText
   pub here : slice_get (load_texts b) place ≡ Some text
   pub of : OfText tables b place text
-  pub is : LoadIs b name of.text.lines
+  pub is : load_lines b name ≡ Some of.text.lines
 
 pub is_loaded : (b : Bundle) (name : List ℕ) (place : ℕ) (t : LoadText) → place_of name (load_names b) ≡ Some place → slice_get (load_texts b) place ≡ Some t → domain_of b name ≡ Some t.domain
 is_loaded b name place t named here = rw named (domain_at b place t here)
@@ -140,4 +126,4 @@ pub load_named : (tables : Tables) (b : Bundle) (name : List ℕ) (place : ℕ) 
 load_named tables b name place h named =
     let t = named_load b place name (place_there name (load_names b) place named) in
     let d = of_text tables b place t.0 h t.1 in
-    record { place = place; named = named; text = t.0; here = t.1; of = d; is = record { domain = t.0.domain; loaded = is_loaded b name place t.0 named t.1; text = d.lines } }
+    record { place = place; named = named; text = t.0; here = t.1; of = d; is = ap (option_and_then (lines_of_domain b)) (is_loaded b name place t.0 named t.1) ∙ d.lines }

@@ -1,28 +1,27 @@
--- The tables are small, and the domain of each load keeps the rules that its code is run by.
+-- The tables are small, and each domain keeps the rules that its code is run by.
 use Rattle.std.proofs.Common.{◌≡◌, ℕ, zero, suc, ◌≤◌, Bool, true, false, List, [], ◌∷◌, length, Option, Some, None, refl, ap, arith}
-use Rattle.std.specs.Prelude.{slice_get, All}
+use Rattle.std.specs.Prelude.{slice_get}
 use Rattle.std.specs.Option.{option_to_list}
 use Rattle.rl_defs.specs.declared.bundle.Bundle.{Bundle}
+use Rattle.rl_defs.specs.declared.code.DomainText.{DomainText}
 use Rattle.rl_defs.specs.declared.idl.IdlLine.{IdlLine}
 use Rattle.rl_defs.specs.declared.idl.IdlLine.TheVariants as form
 use Rattle.rl_defs.specs.declared.tables.StructRow.{StructRow}
 use Rattle.rl_defs.specs.declared.tables.MethodRow.{MethodRow}
 use Rattle.rl_defs.specs.declared.tables.TraitRow.{TraitRow}
 use Rattle.rl_defs.specs.declared.tables.Tables.{Tables}
-use Rattle.rl_defs.specs.declared.load.Load.{Load}
 use Rattle.rl_defs.specs.Interfaces.{Lines, MethodText, TraitText, method_before, methods_of, trait_before, traits_of, struct_name, trait_name, names_by}
 use Rattle.rl_defs.specs.MethodRules.{AreMethodRows}
 use Rattle.rl_defs.specs.CodeNames.{flat_of}
-use Rattle.rl_defs.specs.CodeFits.{IsMethodSmall, IsTraitSmall, IsStructSmall, AreTablesSmall, KeepsRules}
-use Rattle.rl_defs.specs.Standing.{load_of}
-use Rattle.rl_defs.specs.Acceptance.{Accepted}
-use Rattle.valid_loads.specs.PlanFacts.{DomainsKeep}
-use Rattle.valid_loads.proofs.Lists.{length_both}
-use Rattle.valid_loads.proofs.Rules.{Kept, of_short}
+use Rattle.rl_defs.specs.TableSizes.{IsMethodSmall, IsTraitSmall, IsStructSmall, AreTablesSmall}
+use Rattle.rl_defs.specs.CodeRules.{KeepsRules}
+use Rattle.rl_defs.specs.LoadOf.{checked_with}
+use Rattle.rl_defs.proofs.Lists.{length_both, all_of}
+use Rattle.valid_loads.proofs.Rules.{Kept}
 use Rattle.valid_loads.proofs.TableTexts.{trait_text, struct_count, trait_count}
 use Rattle.valid_loads.proofs.TablesKept.{method_kept, few_cells}
-use Rattle.valid_loads.proofs.ShortBundles.{lines_short, idl_short, domain_short}
-use Rattle.valid_loads.proofs.CodeKept.{of_rows, each_one}
+use Rattle.valid_loads.proofs.ShortBundles.{idl_short, domain_short}
+use Rattle.valid_loads.proofs.CodeKept.{each_one}
 
 -- ---- as few rows as lines
 
@@ -68,11 +67,6 @@ method_rows lines (t ∷ texts) (r ∷ rows) h = omega (arith, method_rows lines
 
 -- ---- small tables
 
-all_of : {X : Type 0} (P : X → Type 0) (xs : List X) → ((i : ℕ) (x : X) → slice_get xs i ≡ Some x → P x) → All P xs
-all_of P [] each i d within = absurd (omega (arith, within))
-all_of P (x ∷ xs) each zero d within = each 0 x refl
-all_of P (x ∷ xs) each (suc i) d within = all_of P xs (λ j y e. each (suc j) y e) i d (omega (arith, within))
-
 struct_small : (tables : Tables) (b : Bundle) → Kept tables b → (s : ℕ) (row : StructRow) → slice_get tables.structs s ≡ Some row → IsStructSmall row
 struct_small tables b h s row e = omega (arith, few_cells tables b h s, ap (λ (o : Option StructRow). length (flat_of o)) e)
 
@@ -84,7 +78,7 @@ trait_small tables b h few t x e =
       methods = all_of IsMethodSmall x.methods (λ m row at. let k = method_kept tables b h t m x row e at in record { params = k.params; results = k.results });
     }
 
-small : (tables : Tables) (b : Bundle) → (h : Kept tables b) → length h.texts ≤ 1048576 → AreTablesSmall tables
+pub small : (tables : Tables) (b : Bundle) → (h : Kept tables b) → length h.texts ≤ 1048576 → AreTablesSmall tables
 small tables b h few = record {
   few_structs = omega (arith, few, struct_count b.idl.lines tables.structs h.rows.structs, names_short struct_name b.idl.lines, idl_short tables b h);
   few_traits = omega (arith, few, trait_count b.idl.lines tables.traits h.rows.traits, names_short trait_name b.idl.lines, idl_short tables b h);
@@ -92,16 +86,11 @@ small tables b h few = record {
   traits = all_of IsTraitSmall tables.traits (trait_small tables b h few);
 }
 
-keep : (tables : Tables) (b : Bundle) → (h : Kept tables b) → length h.texts ≤ 1048576 → DomainsKeep (load_of tables b)
-keep tables b h few = record {
+-- a domain keeps the rules that its code is run by
+pub domain_kept : (tables : Tables) (b : Bundle) → (h : Kept tables b) → length h.texts ≤ 1048576 → (place : ℕ) (text : DomainText) → slice_get b.domains place ≡ Some text → KeepsRules (checked_with tables text)
+domain_kept tables b h few place text here = record {
+  short = omega (arith, few, domain_short tables b h place text here);
   small = small tables b h few;
-  rules = of_rows tables b h (λ r d. KeepsRules d) (λ k t d. record {
-    short = omega (arith, few, domain_short tables b h d.place d.text d.here);
-    small = small tables b h few;
-    ordered = each_one tables b h d.place d.text d.here;
-    rules = λ n r f. h.code n r (record { place = d.place; text = d.text; here = d.here; fails = f });
-  });
+  ordered = each_one tables b h place text here;
+  rules = λ n r f. h.code n r (record { place = place; text = text; here = here; fails = f });
 }
-
-pub domains_keep : (bytes : List ℕ) (L : Load) → length bytes ≤ 1048576 → Accepted bytes L → DomainsKeep L
-domains_keep bytes L short = of_short DomainsKeep 1048576 keep bytes L (omega (arith, lines_short bytes, short))

@@ -10,7 +10,7 @@ use Rattle.rl_defs.specs.declared.tables.Kind.TheVariants as kind
 use Rattle.rl_defs.specs.Interfaces.{Lines, types_at}
 use Rattle.rl_defs.specs.Flattening.{Flattens, Ends, Plain, Fields, copies, times_of, kind_held, struct_held, unless_refused, base_kind, is_refused}
 use Rattle.rl_defs.specs.Holding.{HasField, Reaches, HasRRef, HoldsRRef, holds_rref, is_rref}
-use Rattle.valid_loads.proofs.Lists.{get_both}
+use Rattle.rl_defs.proofs.Lists.{get_both}
 
 -- what holds of each item
 abbrev pub Each : {A : Type 0} → (A → Type 0) → List A → Type 0

@@ -1,28 +1,27 @@
-mod Lists
 mod Names
-mod Rules
-mod Rows
-pub mod Targets
+pub mod Rules
+pub mod Rows
+mod Targets
 mod Domains
-pub mod Slots
-pub mod Shadows
-pub mod Bounds
-mod Texts
+mod Slots
+mod Shadows
+mod Bounds
+pub mod Texts
 mod TargetNames
-pub mod Binds
+mod Binds
 mod Closed
-pub mod CodeKept
-mod TableTexts
+mod CodeKept
+pub mod TableTexts
 mod Flat
-pub mod TablesKept
-mod Spots
+mod TablesKept
 mod Traits
 mod ScriptLines
 mod ScriptKinds
 mod ScriptArgs
-pub mod ScriptsKept
-pub mod SizesKept
-pub mod NamesKept
-pub mod TraitsKept
+mod ScriptsKept
+mod SizesKept
+mod NamesKept
+mod NamesApart
 mod ShortBundles
-pub mod DomainsKept
+mod DomainsKept
+pub mod Accepting

@@ -10,9 +10,9 @@ use Rattle.rl_defs.specs.declared.bundle.PlanLine.TheVariants as plan
 use Rattle.rl_defs.specs.declared.load.LoadRow.{LoadRow}
 use Rattle.rl_defs.specs.declared.load.ShadowRow.{ShadowRow}
 use Rattle.rl_defs.specs.Interfaces.{place_of}
-use Rattle.rl_defs.specs.BundleNames.{given_by, names_of, load_given, domains_loaded, load_names, domain_names, lines_of_domain}
-use Rattle.rl_defs.specs.Standing.{shadow_given, shadow_names, load_number, is_serial_in, binds_of, loads_in, loads_of, shadows_in, shadows_of}
-use Rattle.valid_loads.proofs.Lists.{comes, map_get, get_map}
+use Rattle.rl_defs.specs.BundleNames.{given_by, names_of, load_given, domains_loaded, load_names, domain_names, lines_of_domain, shadow_given, shadow_names, shadowed}
+use Rattle.rl_defs.specs.LoadOf.{load_number, is_serial_in, binds_of, loads_in, loads_of, shadows_in, shadows_of}
+use Rattle.rl_defs.proofs.Lists.{comes, map_get, get_map}
 use Rattle.valid_loads.proofs.Names.{names_flat}
 
 -- lists that are made alike, item by item
@@ -56,7 +56,7 @@ load_row_of b t = record {
   name = t.name;
   domain = unwrap_or (place_of t.domain (domain_names b)) 0;
   serial = is_serial_in b t.name;
-  binds = binds_of b t.name (lines_of_domain b t.domain);
+  binds = binds_of b t.name (unwrap_or (lines_of_domain b t.domain) []);
 }
 
 abbrev pub shadow_row_of : Bundle → ShadowText → ShadowRow
@@ -122,6 +122,21 @@ shadows_are b = flat_alike (λ (l : Numbered PlanLine). shadow_text l.form) (λ 
 
 pub shadow_names_are : (b : Bundle) → shadow_names b ≡ map (λ (t : ShadowText). t.name) (shadow_texts b)
 shadow_names_are b = names_flat shadow_given b.plan.lines ∙ flat_alike (λ (l : Numbered PlanLine). shadow_text l.form) (λ (l : Numbered PlanLine). shadow_given l.form) (λ (t : ShadowText). t.name) (λ l. shadow_name_form l.form) b.plan.lines
+
+shadow_load_form : (f : PlanLine) → shadowed f ≡ map (λ (t : ShadowText). t.load) (shadow_text f)
+shadow_load_form (plan.Shadow name load restarts) = refl
+shadow_load_form (plan.Load name domain) = refl
+shadow_load_form (plan.Bind load import target) = refl
+shadow_load_form (plan.Device load blocks) = refl
+shadow_load_form (plan.Serial load) = refl
+shadow_load_form (plan.Fuel n) = refl
+shadow_load_form (plan.Order clients) = refl
+
+-- the load that a shadow stands for
+pub shadow_load_at : (b : Bundle) (k : ℕ) (t : ShadowText) → slice_get (shadow_texts b) k ≡ Some t → slice_get (names_of (given_by shadowed b.plan.lines)) k ≡ Some t.load
+shadow_load_at b k t e =
+    ap (λ (ns : List (List ℕ)). slice_get ns k) (names_flat shadowed b.plan.lines ∙ flat_alike (λ (l : Numbered PlanLine). shadow_text l.form) (λ (l : Numbered PlanLine). shadowed l.form) (λ (t : ShadowText). t.load) (λ l. shadow_load_form l.form) b.plan.lines)
+    ∙ get_map (λ (t : ShadowText). t.load) (shadow_texts b) k t e
 
 pub load_count : (b : Bundle) → length (load_names b) ≡ length (loads_of b)
 load_count b = ap (λ (ns : List (List ℕ)). length ns) (load_names_are b) ∙ length-map (load_texts b) (λ (t : LoadText). t.name) ∙ sym (length-map (load_texts b) (load_row_of b)) ∙ ap (λ (rs : List LoadRow). length rs) (sym (loads_are b))

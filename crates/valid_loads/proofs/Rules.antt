@@ -2,17 +2,17 @@
 use Rattle.std.proofs.Common.{ℕ, ◌≤◌, inl, inr, List, length, refl, sym, subst}
 use Rattle.rl_defs.specs.declared.bundle.Bundle.{Bundle}
 use Rattle.rl_defs.specs.declared.tables.Tables.{Tables}
-use Rattle.rl_defs.specs.declared.load.Load.{Load}
+use Rattle.rl_defs.specs.declared.load.LoadRows.{LoadRows}
 use Rattle.rl_defs.specs.Refusals.{Nowhere}
 use Rattle.rl_defs.specs.Lines.{lines_of}
 use Rattle.rl_defs.specs.BundleParts.{FailsForms, IsBundle}
 use Rattle.rl_defs.specs.TypeRules.{FailsTypes}
 use Rattle.rl_defs.specs.MethodRules.{FailsMethods, TableRows}
-use Rattle.rl_defs.specs.BundleNames.{FailsBundleNames, RepeatsName, NamesNothing}
+use Rattle.rl_defs.specs.NameRules.{FailsBundleNames, RepeatsName, NamesNothing}
 use Rattle.rl_defs.specs.PlanRules.{FailsPlanRules}
 use Rattle.rl_defs.specs.ScriptRules.{FailsScripts}
-use Rattle.rl_defs.specs.Standing.{load_of}
-use Rattle.rl_defs.specs.Acceptance.{FailsDomain, FailsBehindTables, FailsBehindForms, Accepted, Valid}
+use Rattle.rl_defs.specs.LoadOf.{load_of}
+use Rattle.rl_defs.specs.Acceptance.{FailsDomain, FailsBehindTables, FailsBehindForms, Accepted}
 
 -- A bundle that keeps all rules, with the rows of its interfaces.
 pub record Kept (tables : Tables) (b : Bundle) : Type 0 where
@@ -27,7 +27,7 @@ pub record Kept (tables : Tables) (b : Bundle) : Type 0 where
   pub plan : Nowhere (FailsPlanRules b)
   pub scripts : Nowhere (FailsScripts tables b)
 
-kept : (bytes : List ℕ) (L : Load) → (a : Accepted bytes L) → Kept a.tables a.bundle
+kept : (bytes : List ℕ) (L : LoadRows) → (a : Accepted bytes L) → Kept a.tables a.bundle
 kept bytes L a =
     let forms : Nowhere (FailsForms (lines_of bytes)) = λ l r f. a.keeps l r (inl f) in
     let behind : Nowhere (FailsBehindForms a.bundle) = λ l r f. a.keeps l r (inr (forms, (a.bundle, a.lines, f))) in
@@ -50,12 +50,8 @@ kept bytes L a =
       scripts = λ l r f. tables l r (inr (code, inr (plan, f)));
     }
 
--- what holds of each load that a kept bundle stands for holds of each valid one
-pub of_valid : (F : Load → Type 0) → ((tables : Tables) (b : Bundle) → Kept tables b → F (load_of tables b)) → (L : Load) → Valid L → F L
-of_valid F each L v = subst F (sym v.accepted.stands) (each v.accepted.tables v.accepted.bundle (kept v.bytes L v.accepted))
-
 -- what holds of each load that a kept bundle of few lines stands for holds of each that few bytes are accepted as
-pub of_short : (F : Load → Type 0) (most : ℕ) → ((tables : Tables) (b : Bundle) → (h : Kept tables b) → length h.texts ≤ most → F (load_of tables b)) → (bytes : List ℕ) (L : Load) → length (lines_of bytes) ≤ most → Accepted bytes L → F L
+pub of_short : (F : LoadRows → Type 0) (most : ℕ) → ((tables : Tables) (b : Bundle) → (h : Kept tables b) → length h.texts ≤ most → F (load_of tables b)) → (bytes : List ℕ) (L : LoadRows) → length (lines_of bytes) ≤ most → Accepted bytes L → F L
 unfolding kept
 of_short F most each bytes L few a = subst F (sym a.stands) (each a.tables a.bundle (kept bytes L a) few)
 

@@ -1,7 +1,7 @@
 -- The arguments of a call suit its parameters.
 use Rattle.std.proofs.Common.{◌≡◌, ℕ, zero, suc, ◌≤◌, inr, true, false, not, ◌&&◌, List, [], ◌∷◌, length, map, take, Option, Some, None, refl, sym, ap, subst, ◌∙◌, arith, eqb-true, leb-true}
 use Rattle.std.specs.Prelude.{slice_get, unwrap_or, ◌==◌}
-use Rattle.std.specs.List.{flat_map, list_any}
+use Rattle.std.specs.List.{flat_map, list_any, AllZip}
 use Rattle.rl_defs.specs.declared.bundle.Numbered.{Numbered}
 use Rattle.rl_defs.specs.declared.bundle.Bundle.{Bundle}
 use Rattle.rl_defs.specs.declared.bundle.ScriptArgText.{ScriptArgText}
@@ -15,19 +15,21 @@ use Rattle.rl_defs.specs.declared.tables.Tables.{Tables}
 use Rattle.rl_defs.specs.declared.load.ScriptArg.TheVariants as arg
 use Rattle.rl_defs.specs.Words.{same_bytes}
 use Rattle.rl_defs.specs.Interfaces.{place_of}
-use Rattle.rl_defs.specs.BundleNames.{given_by, names_of, name_given, names_used, name_passed, target_passed}
-use Rattle.rl_defs.specs.ScriptRules.{Bound, bound_before, gone_before, kind_of, is_object, bits, name_suits, lent_suits, suits, args_suit, is_among, moved_by, lent_by, are_distinct, keeps_owned, target_trait}
-use Rattle.rl_defs.specs.Standing.{load_of, script_names, name_number, arg_of, target_number}
-use Rattle.rl_defs.specs.Machine.NativeFits.{is_target, trait_if}
-use Rattle.valid_loads.specs.ScriptFacts.{BindsBefore, ArgFits, ArgsFit}
-use Rattle.valid_loads.proofs.Lists.{comes, goes, map_get, not_false, and_left, and_right, same_item}
+use Rattle.rl_defs.specs.BundleNames.{given_by, names_of, name_given}
+use Rattle.rl_defs.specs.NameRules.{names_used, name_passed, target_passed}
+use Rattle.rl_defs.specs.Widths.{bits}
+use Rattle.rl_defs.specs.ScriptRules.{Bound, bound_before, gone_before, kind_of, is_object, name_suits, lent_suits, suits, args_suit, is_among, moved_by, lent_by, are_distinct, keeps_owned, target_trait}
+use Rattle.rl_defs.specs.LoadOf.{load_of, script_names, name_number, arg_of, target_number}
+use Rattle.rl_defs.specs.Rows.{is_target, trait_if}
+use Rattle.rl_defs.specs.ValidScripts.{BindsBefore, ArgFits}
+use Rattle.rl_defs.proofs.Lists.{comes, goes, map_get, not_false, and_left, and_right, same_item}
 use Rattle.valid_loads.proofs.Names.{Apart, known, names_flat, there_place, place_there, same_self}
 use Rattle.valid_loads.proofs.Rules.{Kept, declared}
 use Rattle.valid_loads.proofs.TargetNames.{TargetNamed}
 use Rattle.valid_loads.proofs.Binds.{trait_of_target}
 use Rattle.valid_loads.proofs.TablesKept.{any_at}
 use Rattle.valid_loads.proofs.Traits.{target_trait_is}
-use Rattle.valid_loads.proofs.Spots.{spot, stands_at, one_spot, take_get}
+use Rattle.rl_defs.proofs.Spots.{spot, stands_at, one_spot, take_get}
 use Rattle.valid_loads.proofs.ScriptKinds.{ScriptLine, command_spot, bound_earlier, target_called}
 
 -- ---- one argument
@@ -76,7 +78,7 @@ arg_fits tables b t form h l inner (kind.Lent s) (written.Target name) targets e
 
 -- ---- all arguments
 
-all_fit : (tables : Tables) (b : Bundle) (t : ℕ) (form : ClientLine) → Kept tables b → (l : ScriptLine tables b t form) (inner : ℕ) (kinds : List Kind) (args : List ScriptArgText) → ((i : ℕ) (name : List ℕ) → slice_get args i ≡ Some (written.Target name) → TargetNamed tables b name) → length kinds ≡ length args → args_suit tables b (bound_before tables b l.of.script l.place) kinds args ≡ true → ArgsFit (load_of tables b) t (command_spot tables b l.of.script l.place inner) kinds (map (arg_of b (script_names l.of.script)) args)
+all_fit : (tables : Tables) (b : Bundle) (t : ℕ) (form : ClientLine) → Kept tables b → (l : ScriptLine tables b t form) (inner : ℕ) (kinds : List Kind) (args : List ScriptArgText) → ((i : ℕ) (name : List ℕ) → slice_get args i ≡ Some (written.Target name) → TargetNamed tables b name) → length kinds ≡ length args → args_suit tables b (bound_before tables b l.of.script l.place) kinds args ≡ true → AllZip (ArgFits (load_of tables b) t (command_spot tables b l.of.script l.place inner)) kinds (map (arg_of b (script_names l.of.script)) args)
 all_fit tables b t form h l inner [] [] targets count e = tt
 all_fit tables b t form h l inner [] (a ∷ args) targets count e = absurd (omega (arith, count))
 all_fit tables b t form h l inner (k ∷ kinds) [] targets count e = absurd (omega (arith, count))
@@ -87,7 +89,7 @@ all_fit tables b t form h l inner (k ∷ kinds) (a ∷ args) targets count e =
     )
 
 -- the arguments of a call are of the parameters' kinds
-pub call_args : (tables : Tables) (b : Bundle) (t : ℕ) (target method : List ℕ) (args : List ScriptArgText) (names : List (List ℕ)) → Kept tables b → (l : ScriptLine tables b t (client.Call target method args names)) (inner : ℕ) (kinds : List Kind) → length kinds ≡ length args → args_suit tables b (bound_before tables b l.of.script l.place) kinds args ≡ true → ArgsFit (load_of tables b) t (command_spot tables b l.of.script l.place inner) kinds (map (arg_of b (script_names l.of.script)) args)
+pub call_args : (tables : Tables) (b : Bundle) (t : ℕ) (target method : List ℕ) (args : List ScriptArgText) (names : List (List ℕ)) → Kept tables b → (l : ScriptLine tables b t (client.Call target method args names)) (inner : ℕ) (kinds : List Kind) → length kinds ≡ length args → args_suit tables b (bound_before tables b l.of.script l.place) kinds args ≡ true → AllZip (ArgFits (load_of tables b) t (command_spot tables b l.of.script l.place inner)) kinds (map (arg_of b (script_names l.of.script)) args)
 call_args tables b t target method args names h l inner kinds count e =
     all_fit tables b t (client.Call target method args names) h l inner kinds args (λ i name is.
     let g = goes target_passed args i 0 (written.Target name) name is refl in
@@ -99,7 +101,7 @@ call_args tables b t target method args names h l inner kinds count e =
 used_place : (tables : Tables) (b : Bundle) (t : ℕ) (form : ClientLine) → Kept tables b → (l : ScriptLine tables b t form) (i : ℕ) (q : List ℕ) → slice_get (names_used form) i ≡ Some q → (p : ℕ) × (place_of q (script_names l.of.script) ≡ Some p)
 used_place tables b t form h l i q e =
     let before = names_of (given_by name_given (take l.place l.of.script)) in
-    let p = known (names_used form) before (λ u. declared tables b h l.number (inr (inr (inr (inr (inr (inr (inr (inr (inr (inr (record { script = l.of.script; number = l.of.number; client = l.of.here; place = l.place; form = form; here = l.here; unknown = u })))))))))))) i q e in
+    let p = known (names_used form) before (λ u. declared tables b h l.number (inr (inr (inr (inr (inr (inr (inr (inr (inr (inr (record { command = record { script = l.of.script; number = l.of.number; client = l.of.here; place = l.place; form = form; here = l.here }; unknown = u })))))))))))) i q e in
     let c = comes (λ (x : Numbered ClientLine). name_given x.form) (take l.place l.of.script) p.0 q (ap (λ (ns : List (List ℕ)). slice_get ns p.0) (sym (names_flat name_given (take l.place l.of.script))) ∙ place_there q before p.0 p.1) in
     let at = take_get l.of.script l.place c.place c.item c.here in
     let g = goes (λ (x : Numbered ClientLine). name_given x.form) l.of.script c.place c.inner c.item q at.1 c.there in

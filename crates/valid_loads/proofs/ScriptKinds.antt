@@ -15,18 +15,19 @@ use Rattle.rl_defs.specs.declared.load.Command.{Command}
 use Rattle.rl_defs.specs.declared.load.Command.TheVariants as command
 use Rattle.rl_defs.specs.CodeNames.{results_of}
 use Rattle.rl_defs.specs.Domains.{method_of}
-use Rattle.rl_defs.specs.BundleNames.{ClientLines, targets_called, target_names}
+use Rattle.rl_defs.specs.BundleNames.{ClientLines, target_names}
+use Rattle.rl_defs.specs.NameRules.{targets_called}
 use Rattle.rl_defs.specs.ScriptRules.{Bound, paired, binds, bound_before, kind_of, keeps_kinds, has_count, method_of_call}
-use Rattle.rl_defs.specs.Standing.{load_of, script_names, name_number, arg_of, commands_in, target_number, method_number_of}
-use Rattle.rl_defs.specs.State.{bound_by}
-use Rattle.rl_defs.specs.Machine.Sound.{kinds_given}
-use Rattle.valid_loads.specs.ScriptFacts.{BindsBefore}
-use Rattle.valid_loads.proofs.Lists.{comes, not_false, and_left, get_map}
+use Rattle.rl_defs.specs.LoadOf.{load_of, script_names, name_number, arg_of, commands_in, target_number, method_number_of}
+use Rattle.rl_defs.specs.Rows.{bound_by}
+use Rattle.rl_defs.specs.Rows.{kinds_given}
+use Rattle.rl_defs.specs.ValidScripts.{BindsBefore}
+use Rattle.rl_defs.proofs.Lists.{comes, not_false, and_left, get_map}
 use Rattle.valid_loads.proofs.Names.{declared_by, same_name}
 use Rattle.valid_loads.proofs.Rules.{Kept, declared}
 use Rattle.valid_loads.proofs.TargetNames.{TargetNamed, target_named}
 use Rattle.valid_loads.proofs.Traits.{method_is}
-use Rattle.valid_loads.proofs.Spots.{spot, take_get, stands_at, spot_before}
+use Rattle.rl_defs.proofs.Spots.{spot, take_get, stands_at, spot_before}
 use Rattle.valid_loads.proofs.ScriptLines.{ScriptOf, line_of_script}
 
 -- ---- what a line of a script keeps

@@ -1,5 +1,5 @@
 -- The commands of a client, by the lines of its script.
-use Rattle.std.proofs.Common.{◌≡◌, ℕ, zero, suc, ◌<◌, inr, Bool, true, false, cond, List, [], ◌∷◌, ◌++◌, length, map, Option, Some, None, refl, sym, ap, ◌∙◌, arith}
+use Rattle.std.proofs.Common.{◌≡◌, ℕ, zero, suc, inr, Bool, true, false, cond, List, [], ◌∷◌, ◌++◌, map, Option, Some, None, refl, sym, ap, ◌∙◌}
 use Rattle.std.specs.Prelude.{slice_get, unwrap_or}
 use Rattle.std.specs.List.{flat_map}
 use Rattle.rl_defs.specs.declared.bundle.Numbered.{Numbered}
@@ -10,14 +10,14 @@ use Rattle.rl_defs.specs.declared.tables.Tables.{Tables}
 use Rattle.rl_defs.specs.declared.load.ClientRow.{ClientRow}
 use Rattle.rl_defs.specs.declared.load.Command.{Command}
 use Rattle.rl_defs.specs.BundleNames.{ClientLines, given_by, name_given, client_names, ends_client, commands_at, script_before, scripts_of}
-use Rattle.rl_defs.specs.Standing.{load_of, script_names, name_number, commands_in, commands_of, client_rows, clients_of}
-use Rattle.rl_defs.specs.State.{bound_by, row}
-use Rattle.rl_defs.specs.Wanted.{commands_of as commands_of_row}
-use Rattle.valid_loads.proofs.Lists.{map_get, in_list}
+use Rattle.rl_defs.specs.LoadOf.{load_of, script_names, name_number, commands_in, commands_of, client_rows, clients_of}
+use Rattle.rl_defs.specs.Rows.{bound_by, row}
+use Rattle.rl_defs.specs.Rows.{commands_of as commands_of_row}
+use Rattle.rl_defs.proofs.Lists.{map_get, get_map}
 use Rattle.valid_loads.proofs.Names.{Apart, given_apart, apart_place, names_flat}
 use Rattle.valid_loads.proofs.Rules.{Kept, once}
 use Rattle.valid_loads.proofs.Rows.{flat_alike}
-use Rattle.valid_loads.proofs.Spots.{spot, one_spot, flat_flat, stands_at}
+use Rattle.rl_defs.proofs.Spots.{flat_flat}
 
 -- ---- the script of a client
 
@@ -78,7 +78,7 @@ line_of_script (l ∷ ls) n script k x e d = by l.form n e (λ m h. line_of_scri
 
 -- the names that a script binds are apart
 pub names_apart : (tables : Tables) (b : Bundle) → Kept tables b → (n : ℕ) (script : ClientLines) → slice_get (scripts_of b.clients.lines) n ≡ Some script → Apart (script_names script)
-names_apart tables b h n script e = given_apart (given_by name_given script) (λ m t. once tables b h m (inr (inr (inr (inr (inr (record { script = script; number = n; client = e; twice = t })))))))
+names_apart tables b h n script e = given_apart (given_by name_given script) (λ m t. once tables b h m (inr (inr (inr (inr (inr (record { number = n; names = given_by name_given script; here = get_map (given_by name_given) (scripts_of b.clients.lines) n script e; twice = t })))))))
 
 one_bound : (tables : Tables) (b : Bundle) (names : List (List ℕ)) (f : ClientLine) → flat_map bound_by (commands_in tables b names f) ≡ map (name_number names) (name_given f)
 one_bound tables b names (client.Let name ty values) = refl
@@ -114,19 +114,3 @@ numbers tables b h t k x e =
     let c = some_command (commands_of_row (row (clients_of tables b) t)) k x e in
     let s = script_of tables b t 0 c.0 c.1 in
     script_numbers tables b h s.number s.script s.here k x (ap (λ (cs : List Command). slice_get (flat_map bound_by cs) k) (sym s.commands) ∙ e)
-
--- so a name's number is below their count
-pub number_bound : (tables : Tables) (b : Bundle) → Kept tables b → (t p i k : ℕ) (c : Command) → slice_get (commands_of_row (row (load_of tables b).clients t)) p ≡ Some c → slice_get (bound_by c) i ≡ Some k → k < length (flat_map bound_by (commands_of_row (row (load_of tables b).clients t)))
-number_bound tables b h t p i k c e x =
-    let cs = commands_of_row (row (load_of tables b).clients t) in
-    let at = stands_at bound_by cs p i c k e x in
-    let is = numbers tables b h t (spot bound_by cs p i) k at in
-    omega (arith, is, in_list (flat_map bound_by cs) (spot bound_by cs p i) k at)
-
--- each is bound by one command, at one place
-pub bound_once : (tables : Tables) (b : Bundle) → Kept tables b → (t p q i j k : ℕ) (c d : Command) → slice_get (commands_of_row (row (load_of tables b).clients t)) p ≡ Some c → slice_get (commands_of_row (row (load_of tables b).clients t)) q ≡ Some d → slice_get (bound_by c) i ≡ Some k → slice_get (bound_by d) j ≡ Some k → (p ≡ q) × (i ≡ j)
-bound_once tables b h t p q i j k c d e f x y =
-    let cs = commands_of_row (row (load_of tables b).clients t) in
-    let first = numbers tables b h t (spot bound_by cs p i) k (stands_at bound_by cs p i c k e x) in
-    let second = numbers tables b h t (spot bound_by cs q j) k (stands_at bound_by cs q j d k f y) in
-    one_spot bound_by cs p q i j c d k k e x f y (sym first ∙ second)

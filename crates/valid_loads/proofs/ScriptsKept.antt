@@ -1,7 +1,7 @@
 -- What each command of a script is given fits.
 use Rattle.std.proofs.Common.{◌≡◌, ℕ, zero, suc, ◌<◌, ◌≤◌, ◌^◌, ◌⊎◌, inl, inr, true, false, not, ◌&&◌, List, [], ◌∷◌, length, map, Option, Some, None, refl, sym, ap, subst, ◌∙◌, arith, eqb-true, leb-true, lt-ltb}
 use Rattle.std.specs.Prelude.{slice_get, unwrap_or, nat_le, ◌==◌}
-use Rattle.std.specs.List.{list_any, list_all}
+use Rattle.std.specs.List.{list_any, list_all, Contains}
 use Rattle.std.proofs.lemmas.List.{length-map}
 use Rattle.rl_defs.specs.declared.bundle.Numbered.{Numbered}
 use Rattle.rl_defs.specs.declared.bundle.Bundle.{Bundle}
@@ -14,29 +14,28 @@ use Rattle.rl_defs.specs.declared.tables.Kind.TheVariants as kind
 use Rattle.rl_defs.specs.declared.tables.StructRow.{StructRow}
 use Rattle.rl_defs.specs.declared.tables.MethodRow.{MethodRow}
 use Rattle.rl_defs.specs.declared.tables.Tables.{Tables}
-use Rattle.rl_defs.specs.declared.load.Load.{Load}
 use Rattle.rl_defs.specs.declared.load.Command.{Command}
 use Rattle.rl_defs.specs.declared.load.Command.TheVariants as command
 use Rattle.rl_defs.specs.Tokens.{is_text_byte}
 use Rattle.rl_defs.specs.Interfaces.{place_of, struct_names}
 use Rattle.rl_defs.specs.CodeNames.{struct_number, cells_of, params_of, results_of}
 use Rattle.rl_defs.specs.NativeShapes.{is_number}
-use Rattle.rl_defs.specs.BundleNames.{struct_made}
+use Rattle.rl_defs.specs.NameRules.{struct_made}
 use Rattle.rl_defs.specs.ScriptRules.{bound_before, kind_of, is_object, fits_cell, numbers_fit, bytes_fit, has_count, args_suit, is_own, names_suit, method_of_call}
-use Rattle.rl_defs.specs.Standing.{load_of, script_names, name_number, arg_of, commands_in, target_number, method_number_of}
-use Rattle.rl_defs.specs.State.{row}
-use Rattle.rl_defs.specs.Wanted.{commands_of as commands_of_row}
-use Rattle.rl_defs.specs.Acceptance.{Valid}
-use Rattle.rl_defs.specs.Machine.NativeFits.{is_target, numbers_suit, number_suits}
-use Rattle.valid_loads.specs.ScriptFacts.{BindsBefore, CallFits, CommandFits, ScriptsStand}
-use Rattle.valid_loads.proofs.Lists.{and_left, and_right, in_list, both_true}
+use Rattle.rl_defs.specs.LoadOf.{load_of, script_names, name_number, arg_of, commands_in, target_number, method_number_of}
+use Rattle.rl_defs.specs.Rows.{row}
+use Rattle.rl_defs.specs.Rows.{commands_of as commands_of_row}
+use Rattle.rl_defs.specs.Rows.{is_target}
+use Rattle.rl_defs.specs.Widths.{numbers_suit, number_suits}
+use Rattle.rl_defs.specs.ValidScripts.{BindsBefore, CallFits, CommandFits}
+use Rattle.rl_defs.proofs.Lists.{and_left, and_right, in_list, both_true, at_contained}
 use Rattle.valid_loads.proofs.Names.{declared_by, place_there}
-use Rattle.valid_loads.proofs.Rules.{Kept, of_valid, declared}
+use Rattle.valid_loads.proofs.Rules.{Kept, declared}
 use Rattle.valid_loads.proofs.Texts.{text_bytes}
 use Rattle.valid_loads.proofs.TablesKept.{any_at}
 use Rattle.valid_loads.proofs.Traits.{struct_row_names}
-use Rattle.valid_loads.proofs.Spots.{given_at}
-use Rattle.valid_loads.proofs.ScriptLines.{script_of, line_of_script, numbers, number_bound, bound_once}
+use Rattle.rl_defs.proofs.Spots.{given_at}
+use Rattle.valid_loads.proofs.ScriptLines.{script_of, line_of_script}
 use Rattle.valid_loads.proofs.ScriptKinds.{ScriptLine, command_spot, kinds_kept, target_called, method_called, bound_earlier}
 use Rattle.valid_loads.proofs.ScriptArgs.{call_args, moved_once, moved_unlent}
 
@@ -105,12 +104,13 @@ names_count : (number : List ℕ → ℕ) (results : List Kind) (names : List (L
 names_count number results [] e = inl refl
 names_count number results (n ∷ names) e = inr (length-map (n ∷ names) number ∙ sym (eqb-true (length results) (length (n ∷ names)) e))
 
-names_owned : (number : List ℕ → ℕ) (results : List Kind) (names : List (List ℕ)) → names_suit results names ≡ true → map number names ≡ [] → (q s : ℕ) → slice_get results q ≡ Some (kind.Own s) → ⊥
-names_owned number results [] e none q s at =
-    let there : list_any is_own results ≡ true = any_at is_own results q (kind.Own s) at refl in
+names_owned : (number : List ℕ → ℕ) (results : List Kind) (names : List (List ℕ)) → names_suit results names ≡ true → map number names ≡ [] → (s : ℕ) → Contains results (kind.Own s) → ⊥
+names_owned number results [] e none s c =
+    let at = at_contained results (kind.Own s) c in
+    let there : list_any is_own results ≡ true = any_at is_own results at.0 (kind.Own s) at.1 refl in
     let bad : false ≡ true = sym (ap not there) ∙ e in
     absurd cc
-names_owned number results (n ∷ names) e none q s at = absurd cc
+names_owned number results (n ∷ names) e none s c = absurd cc
 
 call_fits : (tables : Tables) (b : Bundle) (t : ℕ) (target method : List ℕ) (args : List ScriptArgText) (results : List (List ℕ)) → Kept tables b → (l : ScriptLine tables b t (client.Call target method args results)) (inner : ℕ) → CallFits (load_of tables b) t (command_spot tables b l.of.script l.place inner) (target_number b target) (method_number_of tables b target method) (map (arg_of b (script_names l.of.script)) args) (map (name_number (script_names l.of.script)) results)
 call_fits tables b t target method args results h l inner =
@@ -178,15 +178,9 @@ command_fits tables b t (client.Kill target) h l (suc inner) c e = absurd cc
 command_fits tables b t (client.Client name) h l inner c e = absurd cc
 command_fits tables b t client.Close h l inner c e = absurd cc
 
-fits : (tables : Tables) (b : Bundle) → Kept tables b → (t p : ℕ) (c : Command) → slice_get (commands_of_row (row (load_of tables b).clients t)) p ≡ Some c → CommandFits (load_of tables b) t p c
+pub fits : (tables : Tables) (b : Bundle) → Kept tables b → (t p : ℕ) (c : Command) → slice_get (commands_of_row (row (load_of tables b).clients t)) p ≡ Some c → CommandFits (load_of tables b) t p c
 fits tables b h t p c e =
     let s = script_of tables b t p c e in
     let g = given_at (λ (x : Numbered ClientLine). commands_in tables b (script_names s.script) x.form) s.script p c (ap (λ (cs : List Command). slice_get cs p) (sym s.commands) ∙ e) in
     let l : ScriptLine tables b t g.item.form = record { of = s; place = g.place; number = g.item.line; here = g.here } in
     subst (λ (n : ℕ). CommandFits (load_of tables b) t n c) (sym g.is) (command_fits tables b t g.item.form h l g.inner c g.there)
-
-stand : (tables : Tables) (b : Bundle) → Kept tables b → ScriptsStand (load_of tables b)
-stand tables b h = record { fits = fits tables b h; numbers = numbers tables b h; within = number_bound tables b h; once = bound_once tables b h }
-
-pub scripts_stand : (L : Load) → Valid L → ScriptsStand L
-scripts_stand = of_valid ScriptsStand stand

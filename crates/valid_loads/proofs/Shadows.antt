@@ -2,25 +2,20 @@
 use Rattle.std.proofs.Common.{◌≡◌, ℕ, suc, ◌<◌, ◌≤◌, inl, inr, false, List, Some, refl, sym, ap, ◌∙◌, arith}
 use Rattle.std.specs.Prelude.{slice_get}
 use Rattle.std.proofs.lemmas.Bool.{cases_lt, cases_order}
-use Rattle.rl_defs.specs.declared.bundle.Numbered.{Numbered}
 use Rattle.rl_defs.specs.declared.bundle.Bundle.{Bundle}
-use Rattle.rl_defs.specs.declared.bundle.PlanLine.{PlanLine}
-use Rattle.rl_defs.specs.declared.bundle.PlanLine.TheVariants as plan
 use Rattle.rl_defs.specs.declared.tables.Tables.{Tables}
-use Rattle.rl_defs.specs.declared.load.Load.{Load}
 use Rattle.rl_defs.specs.declared.load.ShadowRow.{ShadowRow}
 use Rattle.rl_defs.specs.Interfaces.{place_of}
 use Rattle.rl_defs.specs.Domains.{is_native}
 use Rattle.rl_defs.specs.DomainValue.{Domain}
-use Rattle.rl_defs.specs.BundleNames.{load_names, load_used}
-use Rattle.rl_defs.specs.Standing.{load_of, load_number}
-use Rattle.rl_defs.specs.Acceptance.{Valid}
-use Rattle.rl_defs.specs.Machine.Seen.{domain_of_load}
-use Rattle.valid_loads.specs.PlanFacts.{ShadowsApart}
-use Rattle.valid_loads.proofs.Lists.{come_both, not_true, same_item}
-use Rattle.valid_loads.proofs.Names.{declared_by, place_there}
-use Rattle.valid_loads.proofs.Rules.{Kept, of_valid, declared}
-use Rattle.valid_loads.proofs.Rows.{ShadowText, shadow_text, shadow_texts, shadow_at, shadow_line, shadow_one}
+use Rattle.rl_defs.specs.BundleNames.{load_names, given_by, shadowed}
+use Rattle.rl_defs.specs.NameRules.{load_used}
+use Rattle.rl_defs.specs.LoadOf.{load_of, load_number}
+use Rattle.rl_defs.specs.Rows.{domain_of_load}
+use Rattle.rl_defs.proofs.Lists.{not_true, same_item}
+use Rattle.valid_loads.proofs.Names.{declared_by, place_there, given_apart}
+use Rattle.valid_loads.proofs.Rules.{Kept, declared}
+use Rattle.valid_loads.proofs.Rows.{shadow_load_at, ShadowText, shadow_texts, shadow_at, shadow_line}
 use Rattle.valid_loads.proofs.Domains.{load_named}
 use Rattle.valid_loads.proofs.Targets.{number_there}
 
@@ -39,27 +34,11 @@ same_load tables b h j k t u e d same =
 
 clash : (tables : Tables) (b : Bundle) → Kept tables b → (j k : ℕ) (t u : ShadowText) → j < k → slice_get (shadow_texts b) j ≡ Some t → slice_get (shadow_texts b) k ≡ Some u → t.load ≡ u.load → ⊥
 clash tables b h j k t u lt e d same =
-    let both = come_both (λ (l : Numbered PlanLine). shadow_text l.form) b.plan.lines j k t u lt e d in
-    let first = shadow_one both.first.item.form both.first.inner t both.first.there in
-    let second = shadow_one both.second.item.form both.second.inner u both.second.there in
-    let before : both.first.place < both.second.place = elim both.order [ inl l ↦ l | inr s ↦ absurd (omega (arith, s.1, first.1, second.1)) ] in
-    h.plan both.second.item.line 43 (inr (inr (inr (inl (
-      refl,
-      inr (record {
-        name = u.name;
-        load = u.load;
-        restarts = u.restarts;
-        line = record { place = both.second.place; here = both.second.here ∙ ap (λ (f : PlanLine). Some (record { line = both.second.item.line; form = f })) second.0 };
-        earlier = both.first.place;
-        number = both.first.item.line;
-        other = t.name;
-        others = t.restarts;
-        before = before;
-        there = both.first.here ∙ ap (λ (f : PlanLine). Some (record { line = both.first.item.line; form = f })) (first.0 ∙ ap (λ (n : List ℕ). plan.Shadow t.name n t.restarts) same);
-      }),
-    )))))
+    let apart = given_apart (given_by shadowed b.plan.lines) (λ n g. h.plan n 43 (inr (inr (inr (inl (refl, inr g)))))) in
+    let is = apart j k u.load (shadow_load_at b j t e ∙ ap (λ (q : List ℕ). Some q) same) (shadow_load_at b k u d) in
+    omega (arith, lt, is)
 
-one : (tables : Tables) (b : Bundle) → Kept tables b → (j k : ℕ) (x y : ShadowRow) → slice_get (load_of tables b).shadows j ≡ Some x → slice_get (load_of tables b).shadows k ≡ Some y → x.load ≡ y.load → j ≡ k
+pub one : (tables : Tables) (b : Bundle) → Kept tables b → (j k : ℕ) (x y : ShadowRow) → slice_get (load_of tables b).shadows j ≡ Some x → slice_get (load_of tables b).shadows k ≡ Some y → x.load ≡ y.load → j ≡ k
 one tables b h j k x y e d same =
     let t = shadow_at b j x e in
     let u = shadow_at b k y d in
@@ -71,7 +50,7 @@ one tables b h j k x y e d same =
       | inr (inr more) ↦ absurd (clash tables b h k j u.0 t.0 more u.1 t.1 (sym names))
     ]
 
-code : (tables : Tables) (b : Bundle) → Kept tables b → (k : ℕ) (x : ShadowRow) → slice_get (load_of tables b).shadows k ≡ Some x → is_native (domain_of_load (load_of tables b) x.load).lines ≡ false
+pub code : (tables : Tables) (b : Bundle) → Kept tables b → (k : ℕ) (x : ShadowRow) → slice_get (load_of tables b).shadows k ≡ Some x → is_native (domain_of_load (load_of tables b) x.load).lines ≡ false
 code tables b h k x e =
     let t = shadow_at b k x e in
     let line = shadow_line b k t.0 t.1 in
@@ -87,12 +66,12 @@ code tables b h k x e =
         restarts = t.0.restarts;
         line = record { place = line.place; here = line.here };
         lines = load.of.text.lines;
-        stands_for = load.is;
+        text = load.is;
         native = ap is_native (sym lines) ∙ native;
       }),
     ))))))
 
-few : (tables : Tables) (b : Bundle) → Kept tables b → (k : ℕ) (x : ShadowRow) → slice_get (load_of tables b).shadows k ≡ Some x → x.restarts ≤ 16
+pub few : (tables : Tables) (b : Bundle) → Kept tables b → (k : ℕ) (x : ShadowRow) → slice_get (load_of tables b).shadows k ≡ Some x → x.restarts ≤ 16
 few tables b h k x e =
     let t = shadow_at b k x e in
     let line = shadow_line b k t.0 t.1 in
@@ -101,9 +80,3 @@ few tables b h k x e =
       | inl many ↦ absurd (h.plan line.number 44 (inr (inr (inr (inr (inl (refl, record { name = t.0.name; load = t.0.load; restarts = t.0.restarts; line = record { place = line.place; here = line.here }; many = many })))))))
       | inr within ↦ omega (arith, within, restarts)
     ]
-
-apart : (tables : Tables) (b : Bundle) → Kept tables b → ShadowsApart (load_of tables b)
-apart tables b h = record { one = one tables b h; code = code tables b h; few = few tables b h }
-
-pub shadows_apart : (L : Load) → Valid L → ShadowsApart L
-shadows_apart = of_valid ShadowsApart apart

@@ -13,19 +13,15 @@ use Rattle.rl_defs.specs.declared.code.DomainLine.{DomainLine}
 use Rattle.rl_defs.specs.declared.code.DomainLine.TheVariants as line
 use Rattle.rl_defs.specs.declared.code.DomainText.{DomainText}
 use Rattle.rl_defs.specs.declared.tables.Tables.{Tables}
-use Rattle.rl_defs.specs.declared.load.Load.{Load}
 use Rattle.rl_defs.specs.declared.load.Command.{Command}
 use Rattle.rl_defs.specs.Domains.{Lines, words_of, words_of_form, slots_of}
 use Rattle.rl_defs.specs.BundleNames.{Given, ClientLines, given_by, slot_given, scripts_of}
-use Rattle.rl_defs.specs.Standing.{load_of, script_names, commands_in, clients_of}
-use Rattle.rl_defs.specs.State.{row}
-use Rattle.rl_defs.specs.Wanted.{commands_of as commands_of_row}
-use Rattle.rl_defs.specs.Acceptance.{Valid}
-use Rattle.valid_loads.specs.PlanFacts.{SizesStand}
-use Rattle.valid_loads.proofs.Lists.{list_at, length_both}
+use Rattle.rl_defs.specs.LoadOf.{script_names, commands_in, clients_of}
+use Rattle.rl_defs.specs.Rows.{row}
+use Rattle.rl_defs.specs.Rows.{commands_of as commands_of_row}
+use Rattle.rl_defs.proofs.Lists.{list_at, length_both}
 use Rattle.valid_loads.proofs.Names.{names_flat}
-use Rattle.valid_loads.proofs.Rules.{Kept, of_valid}
-use Rattle.valid_loads.proofs.Domains.{of_each}
+use Rattle.valid_loads.proofs.Rules.{Kept}
 use Rattle.valid_loads.proofs.Slots.{slot_names}
 use Rattle.valid_loads.proofs.Bounds.{few}
 use Rattle.valid_loads.proofs.ScriptLines.{script_of}
@@ -52,15 +48,15 @@ few_words : (lines : Lines) → FewWords lines → words_of lines ≤ 4096
 few_words [] each = omega arith
 few_words (x ∷ xs) each = words_step x x.form (words_of xs) refl (λ n words e. each 0 n words e) (few_words xs (λ k n words e. each (suc k) n words e))
 
-text_words : (tables : Tables) (b : Bundle) → Kept tables b → (place : ℕ) (text : DomainText) → slice_get b.domains place ≡ Some text → words_of text.lines ≤ 4096
+pub text_words : (tables : Tables) (b : Bundle) → Kept tables b → (place : ℕ) (text : DomainText) → slice_get b.domains place ≡ Some text → words_of text.lines ≤ 4096
 text_words tables b h place text here = few_words text.lines (λ k n words e. elim (cases_lt 4096 words) [
-  | inl many ↦ absurd (h.plan n 46 (inr (inr (inr (inr (inr (inr (refl, inr (inr (inr (inr (inl (record { lines = text.lines; domain = record { place = place; here = here }; place = k; words = words; here = e; many = many })))))))))))))
+  | inl many ↦ absurd (h.plan n 46 (inr (inr (inr (inr (inr (inr (refl, inr (inr (inr (inr (inl (record { lines = text.lines; domain = record { place = place; here = here }; words = words; line = record { place = k; here = e }; many = many })))))))))))))
   | inr within ↦ within
 ])
 
 -- ---- slots
 
-text_slots : (tables : Tables) (b : Bundle) → Kept tables b → (place : ℕ) (text : DomainText) → slice_get b.domains place ≡ Some text → length (slots_of text.lines) ≤ 64
+pub text_slots : (tables : Tables) (b : Bundle) → Kept tables b → (place : ℕ) (text : DomainText) → slice_get b.domains place ≡ Some text → length (slots_of text.lines) ≤ 64
 text_slots tables b h place text here =
     let gs = given_by slot_given text.lines in
     let count = few 64 gs (λ n over. h.plan n 46 (inr (inr (inr (inr (inr (inr (refl, inr (inr (inl (record { lines = text.lines; domain = record { place = place; here = here }; over = over }))))))))))) in
@@ -84,7 +80,7 @@ commands_short tables b names (l ∷ ls) = omega (arith, length_both (commands_i
 
 script_short : (tables : Tables) (b : Bundle) → Kept tables b → (n : ℕ) (script : ClientLines) → slice_get (scripts_of b.clients.lines) n ≡ Some script → length script ≤ 1000
 script_short tables b h n script e = elim (cases_lt 1000 (length script)) [
-  | inl many ↦ absurd (let x = list_at script 1000 many in h.plan x.0.line 46 (inr (inr (inr (inr (inr (inr (refl, inr (inr (inr (inl (record { script = script; number = n; client = e; place = 1000; over = omega arith; form = x.0.form; here = x.1 }))))))))))))
+  | inl many ↦ absurd (let x = list_at script 1000 many in h.plan x.0.line 46 (inr (inr (inr (inr (inr (inr (refl, inr (inr (inr (inl (record { command = record { script = script; number = n; client = e; place = 1000; form = x.0.form; here = x.1 }; over = omega arith }))))))))))))
   | inr within ↦ within
 ]
 
@@ -92,20 +88,10 @@ first_there : (cs : List Command) → (cs ≡ []) ⊎ ((c : Command) × (slice_g
 first_there [] = inl refl
 first_there (c ∷ cs) = inr (c, refl)
 
-few_commands : (tables : Tables) (b : Bundle) → Kept tables b → (t : ℕ) → length (commands_of_row (row (clients_of tables b) t)) ≤ 1000
+pub few_commands : (tables : Tables) (b : Bundle) → Kept tables b → (t : ℕ) → length (commands_of_row (row (clients_of tables b) t)) ≤ 1000
 few_commands tables b h t = elim (first_there (commands_of_row (row (clients_of tables b) t))) [
   | inl none ↦ subst (λ (cs : List Command). length cs ≤ 1000) (sym none) (omega arith)
   | inr first ↦
       let s = script_of tables b t 0 first.0 first.1 in
       omega (arith, ap (λ (cs : List Command). length cs) s.commands, commands_short tables b (script_names s.script) s.script, script_short tables b h s.number s.script s.here)
 ]
-
-stand : (tables : Tables) (b : Bundle) → Kept tables b → SizesStand (load_of tables b)
-stand tables b h = record {
-  words = of_each tables b h (λ lines. words_of lines ≤ 4096) (omega arith) (text_words tables b h);
-  slots = of_each tables b h (λ lines. length (slots_of lines) ≤ 64) (omega arith) (text_slots tables b h);
-  commands = few_commands tables b h;
-}
-
-pub sizes_stand : (L : Load) → Valid L → SizesStand L
-sizes_stand = of_valid SizesStand stand

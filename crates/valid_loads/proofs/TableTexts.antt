@@ -12,7 +12,8 @@ use Rattle.rl_defs.specs.declared.tables.StructRow.{StructRow}
 use Rattle.rl_defs.specs.declared.tables.MethodRow.{MethodRow}
 use Rattle.rl_defs.specs.declared.tables.TraitRow.{TraitRow}
 use Rattle.rl_defs.specs.Interfaces.{Lines, FieldText, StructText, MethodText, TraitText, field_before, fields_of, struct_before, structs_of, types_of, field_types, types_at, method_before, methods_of, trait_before, traits_of, struct_name, struct_names, trait_name, trait_names}
-use Rattle.rl_defs.specs.TypeRules.{LineIs, IsStructRow, AreStructRows}
+use Rattle.rl_defs.specs.Refusals.{HasLine}
+use Rattle.rl_defs.specs.TypeRules.{IsStructRow, AreStructRows}
 use Rattle.rl_defs.specs.MethodRules.{IsMethodRow, AreMethodRows, IsTraitRow, AreTraitRows}
 
 -- ---- a method of a trait stands in a line
@@ -93,7 +94,7 @@ trait_line (x ∷ xs) t k text m e at = behind_method x xs false m (trait_step x
 pub record FieldLine (lines : Lines) (ty : TypeText) : Type 0 where
   pub number : ℕ
   pub name : List ℕ
-  pub here : LineIs lines number (form.Field name ty)
+  pub here : HasLine lines number (form.Field name ty)
 
 field_later : (x : Numbered IdlLine) (xs : Lines) (ty : TypeText) → FieldLine xs ty → FieldLine (x ∷ xs) ty
 field_later x xs ty l = record { number = l.number; name = l.name; here = record { place = suc l.here.place; here = l.here.here } }

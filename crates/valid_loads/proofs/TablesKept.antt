@@ -1,7 +1,8 @@
 -- The rows of structs and of methods keep the rules 10 to 23.
+use Rattle.rl_defs.specs.NameRules.{struct_in, trait_in}
 use Rattle.std.proofs.Common.{◌≡◌, ℕ, zero, suc, ◌+◌, ◌<◌, ◌≤◌, inl, inr, Bool, true, false, ◌||◌, List, [], ◌∷◌, length, Option, Some, None, refl, sym, ap, subst, ◌∙◌, arith}
 use Rattle.std.specs.Prelude.{slice_get, unwrap_or}
-use Rattle.std.specs.List.{list_any, position_or_len}
+use Rattle.std.specs.List.{list_any}
 use Rattle.std.proofs.lemmas.Bool.{cases_lt}
 use Rattle.rl_defs.specs.declared.bundle.Bundle.{Bundle}
 use Rattle.rl_defs.specs.declared.idl.Base.{Base}
@@ -15,22 +16,17 @@ use Rattle.rl_defs.specs.declared.tables.StructRow.{StructRow}
 use Rattle.rl_defs.specs.declared.tables.MethodRow.{MethodRow}
 use Rattle.rl_defs.specs.declared.tables.TraitRow.{TraitRow}
 use Rattle.rl_defs.specs.declared.tables.Tables.{Tables}
-use Rattle.rl_defs.specs.declared.load.Load.{Load}
 use Rattle.rl_defs.specs.Interfaces.{Lines, StructText, MethodText, structs_of, traits_of, field_types, types_at, types_in, param_types, result_types, struct_names, trait_names, place_of, struct_number, trait_number}
 use Rattle.rl_defs.specs.Flattening.{Flattens, kind_held, base_kind, is_refused}
-use Rattle.rl_defs.specs.TypeRules.{LineIs, is_lent}
-use Rattle.rl_defs.specs.Words.{same_bytes}
+use Rattle.rl_defs.specs.Refusals.{HasLine}
+use Rattle.rl_defs.specs.TypeRules.{is_lent}
 use Rattle.rl_defs.specs.Holding.{IsEndless, HoldsRRef}
-use Rattle.rl_defs.specs.NameRules.{named_struct, named_trait}
 use Rattle.rl_defs.specs.MethodRules.{IsMethodRow}
 use Rattle.rl_defs.specs.CodeNames.{flat_of, cells_of}
-use Rattle.rl_defs.specs.Domains.{method_of, method_in, trait_named, trait_name, lines_of_load, load_of_target}
-use Rattle.rl_defs.specs.Standing.{load_of}
-use Rattle.rl_defs.specs.Acceptance.{Valid}
-use Rattle.valid_loads.specs.PlanFacts.{IsWithin, IsMethodKept, MethodsStand, StructsStand}
-use Rattle.valid_loads.proofs.Lists.{get_first, get_second, in_list}
+use Rattle.rl_defs.specs.Valid.{IsOwnable, IsPassable}
+use Rattle.rl_defs.proofs.Lists.{get_first, get_second, in_list, goes}
 use Rattle.valid_loads.proofs.Names.{place_there}
-use Rattle.valid_loads.proofs.Rules.{Kept, of_valid}
+use Rattle.valid_loads.proofs.Rules.{Kept}
 use Rattle.valid_loads.proofs.TableTexts.{MethodLine, method_form, trait_line, field_line, struct_text, trait_text, method_text, struct_count, trait_count}
 use Rattle.valid_loads.proofs.Flat.{Each, flat_each, unrefused, own_held, struct_holds}
 
@@ -84,6 +80,13 @@ fields_unlent tables b h s i ty e =
 
 -- ---- structs and traits are those of the tables
 
+-- the struct, and the trait, that a type names
+abbrev named_struct : Base → Option (List ℕ)
+named_struct base = slice_get (struct_in base) 0
+
+abbrev named_trait : Base → Option (List ℕ)
+named_trait base = slice_get (trait_in base) 0
+
 abbrev IsKnown : Lines → TypeText → Type 0
 IsKnown lines ty =
     ((name : List ℕ) → named_struct ty.base ≡ Some name → (p : ℕ) × (place_of name (struct_names lines) ≡ Some p))
@@ -95,38 +98,38 @@ number_within name names p count e same =
     let number : unwrap_or (place_of name names) 0 ≡ p = ap (λ (o : Option ℕ). unwrap_or o 0) e in
     omega (arith, within, number, same)
 
-within_base : (tables : Tables) (lines : Lines) (b : Base) (k : Kind) → length tables.structs ≡ length (struct_names lines) → length tables.traits ≡ length (trait_names lines) → ((name : List ℕ) → named_struct b ≡ Some name → (p : ℕ) × (place_of name (struct_names lines) ≡ Some p)) → ((name : List ℕ) → named_trait b ≡ Some name → (p : ℕ) × (place_of name (trait_names lines) ≡ Some p)) → base_kind lines b ≡ Some k → IsWithin tables k
-within_base tables lines (base.Num w) k s t known traits e = let same : kind.Num w ≡ k = cc in subst (IsWithin tables) same tt
+within_base : (tables : Tables) (lines : Lines) (b : Base) (k : Kind) → length tables.structs ≡ length (struct_names lines) → length tables.traits ≡ length (trait_names lines) → ((name : List ℕ) → named_struct b ≡ Some name → (p : ℕ) × (place_of name (struct_names lines) ≡ Some p)) → ((name : List ℕ) → named_trait b ≡ Some name → (p : ℕ) × (place_of name (trait_names lines) ≡ Some p)) → base_kind lines b ≡ Some k → IsPassable tables k
+within_base tables lines (base.Num w) k s t known traits e = let same : kind.Num w ≡ k = cc in subst (IsPassable tables) same tt
 within_base tables lines (base.RRef name) k s t known traits e =
     let same : kind.Own (struct_number lines name) ≡ k = cc in
     let p = known name refl in
-    subst (IsWithin tables) same (number_within name (struct_names lines) p.0 (length tables.structs) p.1 s)
+    subst (IsPassable tables) same (number_within name (struct_names lines) p.0 (length tables.structs) p.1 s)
 within_base tables lines (base.LentRRef name) k s t known traits e =
     let same : kind.Lent (struct_number lines name) ≡ k = cc in
     let p = known name refl in
-    subst (IsWithin tables) same (number_within name (struct_names lines) p.0 (length tables.structs) p.1 s)
+    subst (IsPassable tables) same (number_within name (struct_names lines) p.0 (length tables.structs) p.1 s)
 within_base tables lines (base.Dyn name) k s t known traits e =
     let same : kind.Cap (trait_number lines name) ≡ k = cc in
     let p = traits name refl in
-    subst (IsWithin tables) same (number_within name (trait_names lines) p.0 (length tables.traits) p.1 t)
+    subst (IsPassable tables) same (number_within name (trait_names lines) p.0 (length tables.traits) p.1 t)
 within_base tables lines (base.Struct name) k s t known traits e = absurd cc
 within_base tables lines base.String k s t known traits e = absurd cc
 within_base tables lines base.Function k s t known traits e = absurd cc
 
-within_one : (tables : Tables) (b : Bundle) → Kept tables b → (ty : TypeText) (k : Kind) → IsKnown b.idl.lines ty → kind_held b.idl.lines ty ≡ Some k → IsWithin tables k
+within_one : (tables : Tables) (b : Bundle) → Kept tables b → (ty : TypeText) (k : Kind) → IsKnown b.idl.lines ty → kind_held b.idl.lines ty ≡ Some k → IsPassable tables k
 within_one tables b h ty k known e =
     within_base tables b.idl.lines ty.base k (struct_count b.idl.lines tables.structs h.rows.structs) (trait_count b.idl.lines tables.traits h.rows.traits) known.0 known.1 (unrefused (is_refused ty) (base_kind b.idl.lines ty.base) k e).1
 
 -- a type in a line names what is declared
-line_known : (tables : Tables) (b : Bundle) → Kept tables b → (n : ℕ) (l : IdlLine) (i : ℕ) (ty : TypeText) → LineIs b.idl.lines n l → slice_get (types_in l) i ≡ Some ty → IsKnown b.idl.lines ty
+line_known : (tables : Tables) (b : Bundle) → Kept tables b → (n : ℕ) (l : IdlLine) (i : ℕ) (ty : TypeText) → HasLine b.idl.lines n l → slice_get (types_in l) i ≡ Some ty → IsKnown b.idl.lines ty
 line_known tables b h n l i ty here used = (λ name e. struct name e (place_of name (struct_names b.idl.lines)) refl, λ name e. trait name e (place_of name (trait_names b.idl.lines)) refl) where
   struct : (name : List ℕ) → named_struct ty.base ≡ Some name → (o : Option ℕ) → place_of name (struct_names b.idl.lines) ≡ o → (p : ℕ) × (place_of name (struct_names b.idl.lines) ≡ Some p)
   struct name e (Some p) is = (p, is)
-  struct name e None is = absurd (h.names n 4 (inl (inr (refl, inl (record { line = l; here = here; place = i; ty = ty; used = used; name = name; names = e; unknown = is })))))
+  struct name e None is = absurd (let g = goes (λ (t : TypeText). struct_in t.base) (types_in l) i 0 ty name used e in h.names n 4 (inl (inr (refl, inl (record { place = here.place; form = l; here = here.here; unknown = record { place = g.0; name = name; uses = g.1; unknown = is } })))))
 
   trait : (name : List ℕ) → named_trait ty.base ≡ Some name → (o : Option ℕ) → place_of name (trait_names b.idl.lines) ≡ o → (p : ℕ) × (place_of name (trait_names b.idl.lines) ≡ Some p)
   trait name e (Some p) is = (p, is)
-  trait name e None is = absurd (h.names n 4 (inl (inr (refl, inr (record { line = l; here = here; place = i; ty = ty; used = used; name = name; names = e; unknown = is })))))
+  trait name e None is = absurd (let g = goes (λ (t : TypeText). trait_in t.base) (types_in l) i 0 ty name used e in h.names n 4 (inl (inr (refl, inr (record { place = here.place; form = l; here = here.here; unknown = record { place = g.0; name = name; uses = g.1; unknown = is } })))))
 
 fields_known : (tables : Tables) (b : Bundle) → Kept tables b → (s : ℕ) → Each (IsKnown b.idl.lines) (types_at b.idl.lines s)
 fields_known tables b h s i ty e =
@@ -167,40 +170,46 @@ few_cells tables b h s = of_cells tables s (λ cells. length cells ≤ 512) (ome
 no_kind : (P : Kind → Type 0) → Each P []
 no_kind P i k e = absurd cc
 
+-- so cells and results hold numbers and objects of the structs
+ownable : (tables : Tables) (k : Kind) → IsPlain k → IsPassable tables k → IsOwnable tables k
+ownable tables (kind.Num w) plain within = tt
+ownable tables (kind.Own s) plain within = within
+ownable tables (kind.Lent s) plain within = absurd cc
+ownable tables (kind.Cap t) plain within = absurd cc
+
 plain_cells : (tables : Tables) (b : Bundle) → Kept tables b → (s : ℕ) → Each IsPlain (cells_of tables s)
 plain_cells tables b h s = of_cells tables s (Each IsPlain) (no_kind IsPlain) (λ row e.
     let c = cells_at tables b h s row e in
     flat_each b.idl.lines Unlent IsPlain (plain_one b.idl.lines) (fields_unlent tables b h) (types_at b.idl.lines s) row.flat c.flat (fields_unlent tables b h s))
 
-within_cells : (tables : Tables) (b : Bundle) → Kept tables b → (s : ℕ) → Each (IsWithin tables) (cells_of tables s)
-within_cells tables b h s = of_cells tables s (Each (IsWithin tables)) (no_kind (IsWithin tables)) (λ row e.
+within_cells : (tables : Tables) (b : Bundle) → Kept tables b → (s : ℕ) → Each (IsPassable tables) (cells_of tables s)
+within_cells tables b h s = of_cells tables s (Each (IsPassable tables)) (no_kind (IsPassable tables)) (λ row e.
     let c = cells_at tables b h s row e in
-    flat_each b.idl.lines (IsKnown b.idl.lines) (IsWithin tables) (within_one tables b h) (fields_known tables b h) (types_at b.idl.lines s) row.flat c.flat (fields_known tables b h s))
+    flat_each b.idl.lines (IsKnown b.idl.lines) (IsPassable tables) (within_one tables b h) (fields_known tables b h) (types_at b.idl.lines s) row.flat c.flat (fields_known tables b h s))
+
+pub cells_kept : (tables : Tables) (b : Bundle) → Kept tables b → (s : ℕ) → Each (IsOwnable tables) (cells_of tables s)
+cells_kept tables b h s p k e = ownable tables k (plain_cells tables b h s p k e) (within_cells tables b h s p k e)
 
 holds_at : (tables : Tables) (b : Bundle) → Kept tables b → (s q g : ℕ) → slice_get (cells_of tables s) q ≡ Some (kind.Own g) → HoldsRRef b.idl.lines s
 holds_at tables b h s q g = of_cells tables s (λ cells. slice_get cells q ≡ Some (kind.Own g) → HoldsRRef b.idl.lines s) (λ e. absurd cc) (λ row e d.
     let c = cells_at tables b h s row e in
     struct_holds b.idl.lines s (own_held b.idl.lines (types_at b.idl.lines s) row.flat q g c.flat d))
 
-flat_cells : (tables : Tables) (b : Bundle) → Kept tables b → (s p k q g : ℕ) → slice_get (cells_of tables s) p ≡ Some (kind.Own k) → slice_get (cells_of tables k) q ≡ Some (kind.Own g) → ⊥
+pub flat_cells : (tables : Tables) (b : Bundle) → Kept tables b → (s p k q g : ℕ) → slice_get (cells_of tables s) p ≡ Some (kind.Own k) → slice_get (cells_of tables k) q ≡ Some (kind.Own g) → ⊥
 flat_cells tables b h s p k q g cell inner = of_cells tables s (λ cells. length cells ≤ 512 → slice_get cells p ≡ Some (kind.Own k) → ⊥) (λ few e. absurd cc) (λ row e few d.
     let c = cells_at tables b h s row e in
     h.types c.text.line 13 (inr (inr (inr (refl, record { number = s; here = record { text = c.text; here = c.here; line = refl }; ends = never_endless tables b h s row.flat c; cells = row.flat; flat = c.flat; few = few; place = p; held = k; cell = d; nested = holds_at tables b h k q g inner })))))
     (few_cells tables b h s) cell
 
-stand : (tables : Tables) (b : Bundle) → Kept tables b → StructsStand (load_of tables b)
-stand tables b h = record {
-  few = few_cells tables b h;
-  unlent = λ s p k e. let plain = plain_cells tables b h s p (kind.Lent k) e in absurd cc;
-  uncapped = λ s p t e. let plain = plain_cells tables b h s p (kind.Cap t) e in absurd cc;
-  within = within_cells tables b h;
-  flat = flat_cells tables b h;
-}
-
-pub structs_stand : (L : Load) → Valid L → StructsStand L
-structs_stand = of_valid StructsStand stand
-
 -- ---- methods
+
+-- what the rules leave in a method's row
+pub record IsMethodKept (tables : Tables) (row : MethodRow) : Type 0 where
+  pub params : length row.params ≤ 8
+  pub results : length row.results ≤ 4
+  pub still : row.idempotent ≡ true → (p s : ℕ) → slice_get row.params p ≡ Some (kind.Own s) → ⊥
+  pub takes : Each (IsPassable tables) row.params
+  pub gives : Each (IsOwnable tables) row.results
 
 pub method_kept : (tables : Tables) (b : Bundle) → Kept tables b → (t m : ℕ) (x : TraitRow) (row : MethodRow) → slice_get tables.traits t ≡ Some x → slice_get x.methods m ≡ Some row → IsMethodKept tables row
 method_kept tables b h t m x row e d =
@@ -209,7 +218,7 @@ method_kept tables b h t m x row e d =
     kept method.0 method.2 (trait_line b.idl.lines t m trait.0 method.0 trait.1 method.1) where
       kept : (text : MethodText) → IsMethodRow b.idl.lines text row → MethodLine b.idl.lines false text → IsMethodKept tables row
       kept text is l =
-          let here : LineIs b.idl.lines text.line (method_form text) = record { place = l.place; here = l.here } in
+          let here : HasLine b.idl.lines text.line (method_form text) = record { place = l.place; here = l.here } in
           let known_params : Each (IsKnown b.idl.lines) (param_types text.params) = λ i ty u. line_known tables b h text.line (method_form text) i ty here (get_first (param_types text.params) (result_types text.result) i ty u) in
           let known_results : Each (IsKnown b.idl.lines) (result_types text.result) = λ i ty u. line_known tables b h text.line (method_form text) (length (param_types text.params) + i) ty here (get_second (param_types text.params) (result_types text.result) i ∙ u) in
           let unlent : Each Unlent (result_types text.result) = λ i ty u. is_false (is_lent ty.base) (λ lent. h.methods text.line 21 (inr (inl (refl, record { method = record { name = text.name; params = text.params; result = text.result; here = here }; lent = any_at (λ (y : TypeText). is_lent y.base) (result_types text.result) i ty u lent })))) in
@@ -241,20 +250,8 @@ method_kept tables b h t m x row e d =
                 },
               ))))
             ];
-            unlent = λ p s u. (let is_plain = plain p (kind.Lent s) u in absurd cc);
-            uncapped = λ p s u. (let is_plain = plain p (kind.Cap s) u in absurd cc);
-            takes = flat_each b.idl.lines (IsKnown b.idl.lines) (IsWithin tables) (within_one tables b h) (fields_known tables b h) (param_types text.params) row.params is.params known_params;
-            gives = flat_each b.idl.lines (IsKnown b.idl.lines) (IsWithin tables) (within_one tables b h) (fields_known tables b h) (result_types text.result) row.results is.results known_results;
+            takes = flat_each b.idl.lines (IsKnown b.idl.lines) (IsPassable tables) (within_one tables b h) (fields_known tables b h) (param_types text.params) row.params is.params known_params;
+            gives = λ p k u.
+                ownable tables k (plain p k u)
+                (flat_each b.idl.lines (IsKnown b.idl.lines) (IsPassable tables) (within_one tables b h) (fields_known tables b h) (result_types text.result) row.results is.results known_results p k u);
           }
-
-target_kept : (tables : Tables) (b : Bundle) → Kept tables b → (x m : ℕ) (row : MethodRow) → method_of (load_of tables b) x m ≡ Some row → IsMethodKept tables row
-target_kept tables b h x m row e = by (trait_named tables (trait_name (lines_of_load (load_of tables b) (load_of_target (load_of tables b) x)))) refl e where
-  by : (o : Option TraitRow) → trait_named tables (trait_name (lines_of_load (load_of tables b) (load_of_target (load_of tables b) x))) ≡ o → method_in o m ≡ Some row → IsMethodKept tables row
-  by None is d = absurd cc
-  by (Some t) is d = method_kept tables b h (position_or_len (λ (u : TraitRow). same_bytes u.name (trait_name (lines_of_load (load_of tables b) (load_of_target (load_of tables b) x)))) tables.traits) m t row is d
-
-stand_methods : (tables : Tables) (b : Bundle) → Kept tables b → MethodsStand (load_of tables b)
-stand_methods tables b h = record { each = method_kept tables b h; target = target_kept tables b h }
-
-pub methods_stand : (L : Load) → Valid L → MethodsStand L
-methods_stand = of_valid MethodsStand stand_methods

@@ -1,26 +1,22 @@
 -- A target by its name: its number, and its load.
-use Rattle.std.proofs.Common.{◌≡◌, ℕ, zero, suc, ◌+◌, ◌-◌, ◌<◌, ◌⊎◌, inl, inr, Bool, true, false, cond, nat_eq, List, [], ◌∷◌, ◌++◌, length, Option, Some, None, refl, sym, ap, ◌∙◌, arith, le-leb}
+use Rattle.std.proofs.Common.{◌≡◌, ℕ, suc, ◌+◌, ◌-◌, ◌<◌, ◌⊎◌, inl, inr, true, List, length, Option, Some, None, refl, sym, ap, ◌∙◌, arith, le-leb}
 use Rattle.std.specs.Prelude.{slice_get, nat_le}
-use Rattle.std.specs.Option.{option_map}
 use Rattle.std.specs.List.{flat_map}
-use Rattle.std.specs.Cmp.Lexicographic.{pointwise}
 use Rattle.rl_defs.specs.declared.bundle.Numbered.{Numbered}
 use Rattle.rl_defs.specs.declared.bundle.Bundle.{Bundle}
 use Rattle.rl_defs.specs.declared.bundle.PlanLine.{PlanLine}
 use Rattle.rl_defs.specs.declared.bundle.PlanLine.TheVariants as plan
 use Rattle.rl_defs.specs.declared.tables.Tables.{Tables}
 use Rattle.rl_defs.specs.Interfaces.{place_of}
-use Rattle.rl_defs.specs.Domains.{load_of_target, load_of_row}
+use Rattle.rl_defs.specs.Domains.{row, load_of_target, load_of_row}
 use Rattle.rl_defs.specs.Domains.{load_of_shadow as load_of_shadow_row}
-use Rattle.rl_defs.specs.BundleNames.{given_by, names_of, load_names, target_names, target_given, load_given}
-use Rattle.rl_defs.specs.PlanRules.{load_of_shadow, shadow_load, load_at}
-use Rattle.rl_defs.specs.PlanRules.{load_of_target as load_of_name}
-use Rattle.rl_defs.specs.Standing.{load_of, shadow_given, shadow_names, loads_of, shadows_of, target_number, counted}
-use Rattle.rl_defs.specs.Machine.NativeFits.{is_target}
-use Rattle.valid_loads.proofs.Lists.{comes, goes, map_get, list_past, in_list, both_true}
+use Rattle.rl_defs.specs.BundleNames.{given_by, names_of, load_names, target_names, target_given, load_given, load_behind as load_of_name, shadow_given, shadow_names}
+use Rattle.rl_defs.specs.LoadOf.{load_of, loads_of, shadows_of, target_number, counted}
+use Rattle.rl_defs.specs.Rows.{is_target}
+use Rattle.rl_defs.proofs.Lists.{comes, goes, map_get, list_past, in_list, both_true}
 use Rattle.valid_loads.proofs.Names.{names_flat, place_there, there_place, place_first, place_second}
 use Rattle.valid_loads.proofs.Rules.{Kept}
-use Rattle.valid_loads.proofs.Rows.{ShadowText, shadow_text, shadow_texts, shadow_row_of, load_count, shadow_count, shadow_names_are, shadow_row_at, row_at}
+use Rattle.valid_loads.proofs.Rows.{shadow_load_at, ShadowText, shadow_texts, shadow_row_of, load_count, shadow_count, shadow_names_are, shadow_row_at, row_at}
 use Rattle.valid_loads.proofs.Domains.{LoadNamed, load_named}
 use Rattle.valid_loads.proofs.Shadows.{shadow_place}
 use Rattle.valid_loads.proofs.Targets.{number_there}
@@ -41,7 +37,7 @@ is_one tables b p lt = both_true (nat_le 1 (suc p)) (nat_le (suc p) (length (loa
 -- ---- a load
 
 own_load : (b : Bundle) (target : List ℕ) (p : ℕ) → place_of target (load_names b) ≡ Some p → load_of_name b target ≡ Some target
-own_load b target p e = ap (load_at b target) e
+own_load b target p e = rw e refl
 
 as_load : (tables : Tables) (b : Bundle) (target : List ℕ) (p : ℕ) → Kept tables b → place_of target (load_names b) ≡ Some p → TargetNamed tables b target
 as_load tables b target p h e =
@@ -59,40 +55,14 @@ as_load tables b target p h e =
 
 -- ---- a shadow
 
-first_shadow : (target : List ℕ) (lines : List (Numbered PlanLine)) (s : ℕ) (u : ShadowText) → place_of target (flat_map (λ l. shadow_given l.form) lines) ≡ Some s → slice_get (flat_map (λ l. shadow_text l.form) lines) s ≡ Some u → load_of_shadow lines target ≡ Some u.load
-first_shadow target [] s u e d = absurd cc
-first_shadow target (l ∷ ls) s u e d = by l.form s e d (λ i e d. first_shadow target ls i u e d) where
-  by : (f : PlanLine) (s : ℕ) → place_of target (shadow_given f ++ flat_map (λ l. shadow_given l.form) ls) ≡ Some s → slice_get (shadow_text f ++ flat_map (λ l. shadow_text l.form) ls) s ≡ Some u → ((i : ℕ) → place_of target (flat_map (λ l. shadow_given l.form) ls) ≡ Some i → slice_get (flat_map (λ l. shadow_text l.form) ls) i ≡ Some u → load_of_shadow ls target ≡ Some u.load) → shadow_load f target (load_of_shadow ls target) ≡ Some u.load
-  by (plan.Shadow name load restarts) s e d more = at (pointwise nat_eq name target) refl where
-    here : (s : ℕ) → Some 0 ≡ Some s → slice_get (record { name = name; load = load; restarts = restarts } ∷ flat_map (λ l. shadow_text l.form) ls) s ≡ Some u → Some load ≡ Some u.load
-    here zero e d = let same : record { name = name; load = load; restarts = restarts } ≡ u = cc in ap (λ (t : ShadowText). Some t.load) same
-    here (suc s) e d = absurd cc
-
-    later : (o : Option ℕ) (s : ℕ) → place_of target (flat_map (λ l. shadow_given l.form) ls) ≡ o → option_map (λ (k : ℕ). suc k) o ≡ Some s → slice_get (record { name = name; load = load; restarts = restarts } ∷ flat_map (λ l. shadow_text l.form) ls) s ≡ Some u → load_of_shadow ls target ≡ Some u.load
-    later None s o e d = absurd cc
-    later (Some i) zero o e d = absurd cc
-    later (Some i) (suc j) o e d = let same : i ≡ j = cc in more j (o ∙ ap (λ (n : ℕ). Some n) same) d
-
-    at : (b : Bool) → pointwise nat_eq name target ≡ b → shadow_load (plan.Shadow name load restarts) target (load_of_shadow ls target) ≡ Some u.load
-    at true is = rw is (here s (sym (ap (λ (b : Bool). cond b (Some 0) (option_map (λ (k : ℕ). suc k) (place_of target (flat_map (λ l. shadow_given l.form) ls)))) is) ∙ e) d)
-    at false is = rw is (later (place_of target (flat_map (λ l. shadow_given l.form) ls)) s refl (sym (ap (λ (b : Bool). cond b (Some 0) (option_map (λ (k : ℕ). suc k) (place_of target (flat_map (λ l. shadow_given l.form) ls)))) is) ∙ e) d)
-  by (plan.Load name domain) s e d more = more s e d
-  by (plan.Bind load import to) s e d more = more s e d
-  by (plan.Device load blocks) s e d more = more s e d
-  by (plan.Serial load) s e d more = more s e d
-  by (plan.Fuel n) s e d more = more s e d
-  by (plan.Order clients) s e d more = more s e d
-
 shadow_stands : (b : Bundle) (target : List ℕ) (s : ℕ) (u : ShadowText) → place_of target (load_names b) ≡ None → place_of target (shadow_names b) ≡ Some s → slice_get (shadow_texts b) s ≡ Some u → load_of_name b target ≡ Some u.load
-shadow_stands b target s u none e d =
-    ap (load_at b target) none
-    ∙ first_shadow target b.plan.lines s u (ap (place_of target) (sym (names_flat shadow_given b.plan.lines)) ∙ e) d
+shadow_stands b target s u none e d = rw (none, e) (shadow_load_at b s u d)
 
 shadow_row : (tables : Tables) (b : Bundle) (s n : ℕ) (u : ShadowText) → n ≡ length (loads_of b) → slice_get (shadow_texts b) s ≡ Some u → load_of_target (load_of tables b) (suc (n + s)) ≡ (shadow_row_of b u).load
 shadow_row tables b s n u same d =
-    let back : (n + s) - length (loads_of b) ≡ s = omega (arith, same) in
+    let back : suc (n + s) - length (loads_of b) ≡ suc s = omega (arith, same) in
     ap (load_of_row (load_of tables b) (suc (n + s))) (list_past (loads_of b) (n + s) (omega (arith, same)))
-    ∙ ap (λ (k : ℕ). load_of_shadow_row (slice_get (shadows_of b) k)) back
+    ∙ ap (λ (k : ℕ). load_of_shadow_row (row (shadows_of b) k)) back
     ∙ ap load_of_shadow_row (shadow_row_at b s u d)
 
 as_shadow : (tables : Tables) (b : Bundle) (target : List ℕ) (s : ℕ) → Kept tables b → place_of target (load_names b) ≡ None → place_of target (shadow_names b) ≡ Some s → TargetNamed tables b target

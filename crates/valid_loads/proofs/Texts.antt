@@ -13,7 +13,7 @@ use Rattle.rl_defs.specs.Tokens.{Token, Name, Text, is_text_byte, Placed, IsToke
 use Rattle.rl_defs.specs.Parts.{Grammar, StandFor}
 use Rattle.rl_defs.specs.BundleForms.{spell_plan, IsPlanLine, spell_client, IsClientLine}
 use Rattle.rl_defs.specs.BundleParts.{plan_part, client_part}
-use Rattle.valid_loads.proofs.Lists.{and_left, and_right}
+use Rattle.rl_defs.proofs.Lists.{and_left, and_right}
 use Rattle.valid_loads.proofs.Rules.{Kept}
 use Rattle.valid_loads.proofs.Rows.{LineOf}
 
@@ -34,7 +34,7 @@ tokens_there place (p ∷ ps) bytes h (suc i) t e = tokens_there p.stop ps h.2 h
 pub token_at : (ts : List Token) (text : List ℕ) → HasTokens ts text → (i : ℕ) (t : Token) → slice_get ts i ≡ Some t → (bytes : List ℕ) × IsToken t bytes
 token_at ts text h i t e = tokens_there 0 h.0 text h.2.tokens i t (ap (λ (us : List Token). slice_get us i) h.1 ∙ e)
 
-named_token : (ts : List Token) (text : List ℕ) → HasTokens ts text → (i : ℕ) (word : List ℕ) → slice_get ts i ≡ Some (Name word) → IsTrue (is_name word)
+pub named_token : (ts : List Token) (text : List ℕ) → HasTokens ts text → (i : ℕ) (word : List ℕ) → slice_get ts i ≡ Some (Name word) → IsTrue (is_name word)
 named_token ts text h i word e = named_there 0 h.0 text h.2.tokens i word (ap (λ (t : List Token). slice_get t i) h.1 ∙ e)
 
 -- the text of a line

@@ -1,7 +1,7 @@
 -- The trait of a target and its methods, by their names and by their numbers.
 use Rattle.std.proofs.Common.{◌≡◌, ℕ, suc, inl, inr, Bool, true, false, cond, nat_eq, List, [], ◌∷◌, ◌++◌, map, Option, Some, None, refl, sym, ap, ◌∙◌, arith}
 use Rattle.std.specs.Prelude.{slice_get, unwrap_or}
-use Rattle.std.specs.Option.{option_map, option_to_list}
+use Rattle.std.specs.Option.{option_map, option_to_list, option_and_then}
 use Rattle.std.specs.List.{position_or_len}
 use Rattle.std.specs.Cmp.Lexicographic.{pointwise}
 use Rattle.rl_defs.specs.declared.bundle.Bundle.{Bundle}
@@ -23,12 +23,12 @@ use Rattle.rl_defs.specs.MethodRules.{AreTraitRows}
 use Rattle.rl_defs.specs.Domains.{Lines, trait_name, trait_named, trait_of_form, method_of, method_in, lines_of_load, lines_of_row, domain_lines, load_of_target}
 use Rattle.rl_defs.specs.CodeNames.{trait_number, method_number, row_at, rows_of}
 use Rattle.rl_defs.specs.CodeNames.{methods_of as methods_of_row}
-use Rattle.rl_defs.specs.CodeFits.{IsOneDomain}
-use Rattle.rl_defs.specs.BundleNames.{traits_used}
-use Rattle.rl_defs.specs.BundleNames.{domain_lines as all_domain_lines}
-use Rattle.rl_defs.specs.ScriptRules.{trait_of_lines, lines_of_load as named_lines, domain_of, target_trait, method_of_call}
-use Rattle.rl_defs.specs.Standing.{load_of, target_number, method_number_of}
-use Rattle.valid_loads.proofs.Lists.{goes}
+use Rattle.rl_defs.specs.DomainParts.{IsOneDomain}
+use Rattle.rl_defs.specs.NameRules.{traits_used}
+use Rattle.rl_defs.specs.BundleNames.{domain_lines as all_domain_lines, load_lines}
+use Rattle.rl_defs.specs.ScriptRules.{target_trait, method_of_call}
+use Rattle.rl_defs.specs.LoadOf.{load_of, target_number, method_number_of}
+use Rattle.rl_defs.proofs.Lists.{goes}
 use Rattle.valid_loads.proofs.Names.{declared_by}
 use Rattle.valid_loads.proofs.Rules.{Kept, declared}
 use Rattle.valid_loads.proofs.Rows.{row_at as load_row_at}
@@ -113,9 +113,8 @@ trait_found tables b h k d here =
 
 pub target_trait_is : (tables : Tables) (b : Bundle) (target : List ℕ) → (t : TargetNamed tables b target) → target_trait tables b target ≡ trait_number tables (trait_name t.loaded.of.text.lines)
 target_trait_is tables b target t =
-    ap (λ (o : Option (List ℕ)). trait_of_lines tables (named_lines b (domain_of b o))) t.stands_for
-    ∙ ap (λ (o : Option (List ℕ)). trait_of_lines tables (named_lines b o)) t.loaded.is.loaded
-    ∙ ap (trait_of_lines tables) t.loaded.is.text
+    ap (λ (o : Option (List ℕ)). unwrap_or (option_map (λ (ls : Lines). trait_number tables (trait_name ls)) (option_and_then (load_lines b) o)) 0) t.stands_for
+    ∙ ap (λ (o : Option Lines). unwrap_or (option_map (λ (ls : Lines). trait_number tables (trait_name ls)) o) 0) t.loaded.is
 
 lines_of_target : (tables : Tables) (b : Bundle) (target : List ℕ) → (t : TargetNamed tables b target) → lines_of_load (load_of tables b) (load_of_target (load_of tables b) (suc t.place)) ≡ t.loaded.of.text.lines
 lines_of_target tables b target t =

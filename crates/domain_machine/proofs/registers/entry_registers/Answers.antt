@@ -1,10 +1,10 @@
 use Rattle.std.proofs.Common.{◌<◌, ◌-◌, ◌∙◌, ◌++◌, ap, take, arith, Option, Some, None}
 use Rattle.std.specs.Prelude.{map, replicate, slice_set}
-use Rattle.rl_defs.specs.declared.values.Arg.{Arg}
-use Rattle.rl_defs.specs.declared.values.Arg.TheVariants as arg
+use Rattle.machine_defs.specs.declared.values.Arg.{Arg}
+use Rattle.machine_defs.specs.declared.values.Arg.TheVariants as arg
 use Rattle.rl_defs.specs.declared.values.Value.{Value}
-use Rattle.rl_defs.specs.Crossing.{value_of}
-use Rattle.rl_defs.specs.Registers.{Registers}
+use Rattle.machine_defs.specs.Arguments.{value_of}
+use Rattle.domain_machine.specs.Small.Registers.{Registers}
 use Rattle.domain_machine.proofs.Settling.{entered_more}
 use Rattle.domain_machine.proofs.registers.entry_registers.Goals as goal
 

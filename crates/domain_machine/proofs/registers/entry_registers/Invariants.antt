@@ -1,6 +1,6 @@
 use Rattle.std.proofs.Common.{◌≡◌, ◌-◌, ◌++◌, take, Some, None}
 use Rattle.std.specs.Prelude.{map, replicate}
-use Rattle.rl_defs.specs.Crossing.{value_of}
+use Rattle.machine_defs.specs.Arguments.{value_of}
 use Rattle.domain_machine.proofs.registers.entry_registers.Given as goal
 
 abbrev pub invariant-places : goal.invariant-places

@@ -1,4 +1,4 @@
-use Rattle.rl_defs.specs.Registers.{value_in}
+use Rattle.domain_machine.specs.Small.Registers.{value_in}
 use Rattle.domain_machine.proofs.Settling.{holds_more}
 use Rattle.domain_machine.proofs.registers.results_of.Goals as goal
 

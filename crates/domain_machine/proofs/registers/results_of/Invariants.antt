@@ -1,6 +1,6 @@
 use Rattle.std.proofs.Common.{◌≡◌, ◌≤◌, take, length}
 use Rattle.std.specs.List.{filter_map}
-use Rattle.rl_defs.specs.Registers.{value_in}
+use Rattle.domain_machine.specs.Small.Registers.{value_in}
 use Rattle.domain_machine.proofs.registers.results_of.Given as goal
 
 abbrev pub invariant-list : goal.invariant-list

@@ -1,6 +1,6 @@
 use Rattle.std.proofs.Common.{◌≡◌, ◌∙◌, sym, ap, Some}
 use Rattle.std.specs.Prelude.{slice_get}
-use Rattle.rl_defs.specs.Registers as work
+use Rattle.domain_machine.specs.Small.Registers as work
 use Rattle.domain_machine.proofs.Settling.{works, would, stuck}
 use Rattle.domain_machine.proofs.registers.settle.Goals as goal
 

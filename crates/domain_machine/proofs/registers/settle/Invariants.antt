@@ -1,5 +1,5 @@
 use Rattle.std.proofs.Common.{◌≡◌}
-use Rattle.rl_defs.specs.Registers as work
+use Rattle.domain_machine.specs.Small.Registers as work
 use Rattle.domain_machine.proofs.registers.settle.Given as goal
 
 abbrev pub invariant-work : goal.invariant-work

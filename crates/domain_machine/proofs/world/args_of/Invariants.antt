@@ -1,6 +1,6 @@
 use Rattle.std.proofs.Common.{◌≡◌, length, take}
 use Rattle.std.specs.Prelude.{map}
-use Rattle.rl_defs.specs.Wanted.{arg_of}
+use Rattle.machine_defs.specs.Wants.{arg_of}
 use Rattle.domain_machine.proofs.world.args_of.Given as goal
 
 abbrev pub invariant-list : goal.invariant-list

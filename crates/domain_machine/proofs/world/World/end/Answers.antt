@@ -1,5 +1,6 @@
 use Rattle.std.proofs.Common.{◌≡◌}
-use Rattle.rl_defs.specs.Wanted.{wanted, Finishes}
+use Rattle.domain_machine.specs.Small.Wants.{wanted}
+use Rattle.machine_defs.specs.Wants.{Finishes}
 use Rattle.domain_machine.specs.Kept.{Kept, IsDone}
 use Rattle.domain_machine.proofs.Rows.{world}
 use Rattle.domain_machine.proofs.Ending.{ended_by}

@@ -1,8 +1,8 @@
 use Rattle.std.proofs.Common.{◌≡◌, ◌<◌, ◌-◌, arith, subst, length, Option}
 use Rattle.std.specs.Prelude.{IfSome}
 use Rattle.std.specs.List.{slice_index_or}
-use Rattle.rl_defs.specs.State.{stack}
-use Rattle.rl_defs.specs.declared.frame.Action.TheVariants as action
+use Rattle.machine_defs.specs.State.{stack}
+use Rattle.machine_defs.specs.declared.frame.Action.TheVariants as action
 use Rattle.domain_machine.specs.declared.registers.Before.{Before}
 use Rattle.domain_machine.specs.SmallStates.{nobody}
 use Rattle.domain_machine.specs.Work.{FrameSettlesTo}

@@ -2,7 +2,7 @@ use Rattle.std.proofs.Common.{◌≡◌, ◌≤◌, arith, length, refl, true}
 use Rattle.std.specs.Prelude.{nat_le}
 use Rattle.std.proofs.lemmas.Bool.Decides.{nat_tests}
 use Rattle.std.proofs.lemmas.Grind.{common_steps}
-use Rattle.rl_defs.specs.Words.{is_word, is_reserved}
+use Rattle.rl_defs.specs.Words.{is_word}
 use Rattle.rl_defs.proofs.Names.{kept, named, unset}
 use Rattle.rl_defs.proofs.name.Name.of_run.Goals as goal
 

@@ -1,5 +1,0 @@
-use Rattle.rl_defs.proofs.CodeAnswers.{answers_fit}
-use Rattle.rl_defs.proofs.laws.answers_fit.Goals as goal
-
-pub returns : goal.returns
-returns c = answers_fit

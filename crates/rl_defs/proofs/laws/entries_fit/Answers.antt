@@ -1,5 +1,0 @@
-use Rattle.rl_defs.proofs.CodeEntries.{entries_fit}
-use Rattle.rl_defs.proofs.laws.entries_fit.Goals as goal
-
-pub returns : goal.returns
-returns c = entries_fit

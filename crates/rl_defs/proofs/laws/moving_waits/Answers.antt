@@ -1,5 +1,0 @@
-use Rattle.rl_defs.proofs.CodeAnswers.{gives_up}
-use Rattle.rl_defs.proofs.laws.moving_waits.Goals as goal
-
-pub returns : goal.returns
-returns c = gives_up

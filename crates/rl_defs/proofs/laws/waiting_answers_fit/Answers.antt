@@ -1,5 +1,0 @@
-use Rattle.rl_defs.proofs.CodeAnswers.{waiting_answers_fit}
-use Rattle.rl_defs.proofs.laws.waiting_answers_fit.Goals as goal
-
-pub returns : goal.returns
-returns c = waiting_answers_fit

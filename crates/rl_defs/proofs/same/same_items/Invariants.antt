@@ -1,5 +1,0 @@
-use Rattle.std.proofs.Common.{◌≡◌, take}
-use Rattle.rl_defs.proofs.same.same_items.Given as goal
-
-abbrev pub invariant-items : goal.invariant-items
-invariant-items g l = take l.i l.a ≡ take l.i l.b

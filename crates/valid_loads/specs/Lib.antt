@@ -1,2 +1,0 @@
-pub mod PlanFacts
-pub mod ScriptFacts
