@@ -3,16 +3,16 @@ use Rattle.std.proofs.Common.{ℕ, zero, suc, arith, List, [], ◌∷◌, Option
 use Rattle.std.specs.Fmt.{digits}
 use Rattle.rl_defs.specs.declared.values.Value.{Value}
 use Rattle.rl_defs.specs.declared.values.Value.TheVariants as value
-use Rattle.rl_defs.specs.declared.values.Owner.TheVariants as owner
-use Rattle.rl_defs.specs.declared.entry.Entry.TheVariants as entry
-use Rattle.rl_defs.specs.State.{State, StackFrame, start, with_thread}
-use Rattle.rl_defs.specs.Loans.{sweep}
-use Rattle.rl_defs.specs.Run.{AllDone}
-use Rattle.rl_defs.specs.Machine.Objects.{with_new}
-use Rattle.rl_defs.specs.Machine.Seen.{ended}
-use Rattle.rl_defs.specs.Machine.Frames.{popped, with_top}
-use Rattle.rl_defs.specs.Machine.CallRows.{entered, after_return}
-use Rattle.rl_defs.specs.Machine.Steps.{Step}
+use Rattle.machine_defs.specs.declared.values.Owner.TheVariants as owner
+use Rattle.machine_defs.specs.declared.entry.Entry.TheVariants as entry
+use Rattle.machine_defs.specs.State.{State, StackFrame, start, with_thread}
+use Rattle.machine_defs.specs.Loans.{sweep}
+use Rattle.machine_defs.specs.Runs.{AllDone}
+use Rattle.machine_defs.specs.Objects.{with_new}
+use Rattle.machine_defs.specs.Seen.{ended}
+use Rattle.machine_defs.specs.Frames.{popped, with_top}
+use Rattle.machine_defs.specs.CallRows.{call_entered, after_return}
+use Rattle.machine_defs.specs.Steps.{Step}
 use Rattle.worked_runs.specs.Parts.{thread, frame_at, quiet, freeing}
 use Rattle.worked_runs.specs.EndedCaller.{ended_caller, ended_caller_end, IsEndedCaller}
 use Rattle.worked_runs.proofs.Turns.{none_yet, goes_on, worked}
@@ -28,7 +28,7 @@ abbrev pub first : State
 first = start ended_caller
 
 abbrev pub called : State
-called = entered 1 1 2 [] (outer 3 []) (with_thread first 1 (thread 9999 0 []))
+called = call_entered 1 1 2 [] (outer 3 []) (with_thread first 1 (thread 9999 0 []))
 
 pub call : Step ended_caller first (quiet (entry.Call 1 1 2 2 0 [])) called
 call = record {
@@ -54,7 +54,7 @@ abbrev pub charged : State
 charged = with_top 1 (outer 4 (Some (value.Cap 1) ∷ [])) (with_thread called 1 (thread 9997 0 []))
 
 abbrev pub called_inner : State
-called_inner = entered 1 2 1 [] (inner 2 []) charged
+called_inner = call_entered 1 2 1 [] (inner 2 []) charged
 
 pub call_inner : Step ended_caller called (quiet (entry.Call 1 2 1 1 0 [])) called_inner
 call_inner = record {

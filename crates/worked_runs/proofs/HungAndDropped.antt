@@ -3,16 +3,16 @@ use Rattle.std.proofs.Common.{ℕ, zero, suc, arith, List, [], ◌∷◌, refl, 
 use Rattle.std.specs.Fmt.{digits}
 use Rattle.rl_defs.specs.declared.values.Value.{Value}
 use Rattle.rl_defs.specs.declared.values.Value.TheVariants as value
-use Rattle.rl_defs.specs.declared.values.Owner.TheVariants as owner
-use Rattle.rl_defs.specs.declared.entry.Entry.TheVariants as entry
-use Rattle.rl_defs.specs.Run.{AllDone}
-use Rattle.rl_defs.specs.State.{State, StackFrame, Thread, Hung, start, with_thread}
-use Rattle.rl_defs.specs.Loans.{sweep}
-use Rattle.rl_defs.specs.Machine.Objects.{with_new, without, placed}
-use Rattle.rl_defs.specs.Machine.Frames.{with_top}
-use Rattle.rl_defs.specs.Machine.CallRows.{entered, after_return, command_done}
-use Rattle.rl_defs.specs.Machine.ObjectRows.{without_name}
-use Rattle.rl_defs.specs.Machine.Steps.{Step}
+use Rattle.machine_defs.specs.declared.values.Owner.TheVariants as owner
+use Rattle.machine_defs.specs.declared.entry.Entry.TheVariants as entry
+use Rattle.machine_defs.specs.Runs.{AllDone}
+use Rattle.machine_defs.specs.State.{State, StackFrame, Thread, Hung, start, with_thread}
+use Rattle.machine_defs.specs.Loans.{sweep}
+use Rattle.machine_defs.specs.Objects.{with_new, without, placed}
+use Rattle.machine_defs.specs.Frames.{with_top}
+use Rattle.machine_defs.specs.CallRows.{call_entered, after_return, command_done}
+use Rattle.machine_defs.specs.ObjectRows.{without_name}
+use Rattle.machine_defs.specs.Steps.{Step}
 use Rattle.worked_runs.specs.Parts.{thread, frame_at, quiet, freeing}
 use Rattle.worked_runs.specs.HungAndDropped.{dropped_load, dropped_end, IsHungAndDropped}
 use Rattle.worked_runs.proofs.Turns.{none_yet, goes_on, worked}
@@ -33,7 +33,7 @@ abbrev before : State
 before = start dropped_load
 
 abbrev called : State
-called = entered 1 1 1 [] (making 2 []) (with_thread before 1 (unbound 9999 0))
+called = call_entered 1 1 1 [] (making 2 []) (with_thread before 1 (unbound 9999 0))
 
 calls : Step dropped_load before (quiet (entry.Call 1 1 1 1 0 [])) called
 calls = record {

@@ -1,20 +1,20 @@
 -- The run of the driver that is killed in a read, step by step.
 use Rattle.std.proofs.Common.{ℕ, zero, suc, arith, List, [], ◌∷◌, Option, Some, None, refl, true, inr}
 use Rattle.std.specs.Fmt.{digits}
-use Rattle.rl_defs.specs.declared.values.Arg.TheVariants as arg
+use Rattle.machine_defs.specs.declared.values.Arg.TheVariants as arg
 use Rattle.rl_defs.specs.declared.values.Value.{Value}
 use Rattle.rl_defs.specs.declared.values.Value.TheVariants as value
-use Rattle.rl_defs.specs.declared.values.Owner.TheVariants as owner
-use Rattle.rl_defs.specs.declared.entry.Entry.TheVariants as entry
-use Rattle.rl_defs.specs.State.{State, StackFrame, Thread, start, with_thread}
-use Rattle.rl_defs.specs.Loans.{sweep}
-use Rattle.rl_defs.specs.Run.{AllDone}
-use Rattle.rl_defs.specs.Machine.Objects.{with_new, with_cells_of}
-use Rattle.rl_defs.specs.Machine.Seen.{ended}
-use Rattle.rl_defs.specs.Machine.Frames.{with_top}
-use Rattle.rl_defs.specs.Machine.CallRows.{entered, reloaded, after_return}
-use Rattle.rl_defs.specs.Machine.ObjectRows.{instead, block}
-use Rattle.rl_defs.specs.Machine.Steps.{Step}
+use Rattle.machine_defs.specs.declared.values.Owner.TheVariants as owner
+use Rattle.machine_defs.specs.declared.entry.Entry.TheVariants as entry
+use Rattle.machine_defs.specs.State.{State, StackFrame, Thread, start, with_thread}
+use Rattle.machine_defs.specs.Loans.{sweep}
+use Rattle.machine_defs.specs.Runs.{AllDone}
+use Rattle.machine_defs.specs.Objects.{with_new, with_cells_of}
+use Rattle.machine_defs.specs.Seen.{ended}
+use Rattle.machine_defs.specs.Frames.{with_top}
+use Rattle.machine_defs.specs.CallRows.{call_entered, reloaded, after_return}
+use Rattle.machine_defs.specs.ObjectRows.{instead, block}
+use Rattle.machine_defs.specs.Steps.{Step}
 use Rattle.worked_runs.specs.Parts.{thread, frame_at, quiet, freeing}
 use Rattle.worked_runs.specs.KilledInARead.{killed_in_a_read, killed_in_a_read_end, IsKilledInARead}
 use Rattle.worked_runs.proofs.Turns.{none_yet, goes_on, worked}
@@ -30,7 +30,7 @@ abbrev pub first : State
 first = start killed_in_a_read
 
 abbrev pub called : State
-called = entered 1 1 1 (arg.Num 0 ∷ []) (read_frame 1 6 []) (with_thread first 1 (reader 9999))
+called = call_entered 1 1 1 (arg.Num 0 ∷ []) (read_frame 1 6 []) (with_thread first 1 (reader 9999))
 
 call : Step killed_in_a_read first (quiet (entry.Call 1 1 2 1 1 (arg.Num 0 ∷ []))) called
 call = record {

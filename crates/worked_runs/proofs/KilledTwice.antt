@@ -1,14 +1,14 @@
 -- The run of the driver that is killed twice, step by step.
 use Rattle.std.proofs.Common.{ℕ, zero, suc, arith, [], refl, true, inr}
 use Rattle.std.specs.Fmt.{digits}
-use Rattle.rl_defs.specs.declared.values.RpcCode.TheVariants as code
-use Rattle.rl_defs.specs.declared.entry.Entry.TheVariants as entry
-use Rattle.rl_defs.specs.State.{State, StackFrame, start, with_thread}
-use Rattle.rl_defs.specs.Run.{AllDone}
-use Rattle.rl_defs.specs.Machine.Seen.{ended}
-use Rattle.rl_defs.specs.Machine.Frames.{popped, with_top}
-use Rattle.rl_defs.specs.Machine.CallRows.{entered, numbered, reloaded}
-use Rattle.rl_defs.specs.Machine.Steps.{Step}
+use Rattle.machine_defs.specs.declared.values.RpcCode.TheVariants as code
+use Rattle.machine_defs.specs.declared.entry.Entry.TheVariants as entry
+use Rattle.machine_defs.specs.State.{State, StackFrame, start, with_thread}
+use Rattle.machine_defs.specs.Runs.{AllDone}
+use Rattle.machine_defs.specs.Seen.{ended}
+use Rattle.machine_defs.specs.Frames.{popped, with_top}
+use Rattle.machine_defs.specs.CallRows.{call_entered, numbered, reloaded}
+use Rattle.machine_defs.specs.Steps.{Step}
 use Rattle.worked_runs.specs.Parts.{thread, frame_at, quiet}
 use Rattle.worked_runs.specs.KilledTwice.{killed_twice, killed_twice_end, IsKilledTwice}
 use Rattle.worked_runs.proofs.Turns.{none_yet, goes_on, worked}
@@ -20,7 +20,7 @@ abbrev pub first : State
 first = start killed_twice
 
 abbrev pub called : State
-called = entered 1 1 1 [] (size_frame 1 1) (with_thread first 1 (thread 9999 0 []))
+called = call_entered 1 1 1 [] (size_frame 1 1) (with_thread first 1 (thread 9999 0 []))
 
 call : Step killed_twice first (quiet (entry.Call 1 1 2 1 0 [])) called
 call = record {
@@ -42,7 +42,7 @@ call = record {
 }
 
 abbrev pub called_too : State
-called_too = entered 2 2 1 [] (size_frame 2 1) (with_thread called 2 (thread 9999 0 []))
+called_too = call_entered 2 2 1 [] (size_frame 2 1) (with_thread called 2 (thread 9999 0 []))
 
 call_too : Step killed_twice called (quiet (entry.Call 2 2 2 1 0 [])) called_too
 call_too = record {

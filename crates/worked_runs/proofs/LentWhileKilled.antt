@@ -3,18 +3,18 @@ use Rattle.std.proofs.Common.{ℕ, zero, suc, arith, List, [], ◌∷◌, refl, 
 use Rattle.std.specs.Fmt.{digits}
 use Rattle.rl_defs.specs.declared.values.Value.{Value}
 use Rattle.rl_defs.specs.declared.values.Value.TheVariants as value
-use Rattle.rl_defs.specs.declared.values.Arg.{Arg}
-use Rattle.rl_defs.specs.declared.values.Arg.TheVariants as arg
-use Rattle.rl_defs.specs.declared.values.Owner.TheVariants as owner
-use Rattle.rl_defs.specs.declared.entry.Entry.TheVariants as entry
-use Rattle.rl_defs.specs.Run.{AllDone}
-use Rattle.rl_defs.specs.State.{State, StackFrame, start, with_thread}
-use Rattle.rl_defs.specs.Loans.{sweep}
-use Rattle.rl_defs.specs.Machine.Objects.{with_new}
-use Rattle.rl_defs.specs.Machine.Seen.{ended}
-use Rattle.rl_defs.specs.Machine.Frames.{with_top, popped}
-use Rattle.rl_defs.specs.Machine.CallRows.{entered, after_return, command_done}
-use Rattle.rl_defs.specs.Machine.Steps.{Step}
+use Rattle.machine_defs.specs.declared.values.Arg.{Arg}
+use Rattle.machine_defs.specs.declared.values.Arg.TheVariants as arg
+use Rattle.machine_defs.specs.declared.values.Owner.TheVariants as owner
+use Rattle.machine_defs.specs.declared.entry.Entry.TheVariants as entry
+use Rattle.machine_defs.specs.Runs.{AllDone}
+use Rattle.machine_defs.specs.State.{State, StackFrame, start, with_thread}
+use Rattle.machine_defs.specs.Loans.{sweep}
+use Rattle.machine_defs.specs.Objects.{with_new}
+use Rattle.machine_defs.specs.Seen.{ended}
+use Rattle.machine_defs.specs.Frames.{with_top, popped}
+use Rattle.machine_defs.specs.CallRows.{call_entered, after_return, command_done}
+use Rattle.machine_defs.specs.Steps.{Step}
 use Rattle.worked_runs.specs.Parts.{thread, frame_at, quiet, freeing}
 use Rattle.worked_runs.specs.LentWhileKilled.{lent_load, lent_end, IsLentWhileKilled}
 use Rattle.worked_runs.proofs.Turns.{none_yet, goes_on, worked}
@@ -46,7 +46,7 @@ abbrev before : State
 before = start lent_load
 
 abbrev pub called : State
-called = entered 1 1 3 [] (owning 3 []) (with_thread before 1 (thread 9999 0 []))
+called = call_entered 1 1 3 [] (owning 3 []) (with_thread before 1 (thread 9999 0 []))
 
 pub calls : Step lent_load before (quiet (entry.Call 1 1 3 3 0 [])) called
 calls = record {
@@ -90,7 +90,7 @@ makes = record {
 
 -- it lends the object
 abbrev pub lent : State
-lent = entered 1 2 2 its_loan (lending 3 (object ∷ [])) (with_top 1 (owning 5 (object ∷ target 2 ∷ [])) (with_thread made 1 (thread 9996 0 [])))
+lent = call_entered 1 2 2 its_loan (lending 3 (object ∷ [])) (with_top 1 (owning 5 (object ∷ target 2 ∷ [])) (with_thread made 1 (thread 9996 0 [])))
 
 pub lends : Step lent_load made (quiet (entry.Call 1 2 2 2 0 its_loan)) lent
 lends = record {
@@ -126,7 +126,7 @@ kills = record {
 
 -- the object is lent on
 abbrev pub lent_on : State
-lent_on = entered 1 3 1 its_loan (reading 2 (object ∷ [])) (with_top 1 (lending 4 (object ∷ target 1 ∷ [])) (with_thread killed 1 (thread 9994 0 [])))
+lent_on = call_entered 1 3 1 its_loan (reading 2 (object ∷ [])) (with_top 1 (lending 4 (object ∷ target 1 ∷ [])) (with_thread killed 1 (thread 9994 0 [])))
 
 pub lends_on : Step lent_load killed (quiet (entry.Call 1 3 1 1 0 its_loan)) lent_on
 lends_on = record {

@@ -3,18 +3,18 @@ use Rattle.std.proofs.Common.{ℕ, zero, suc, arith, List, [], ◌∷◌, refl, 
 use Rattle.std.specs.Fmt.{digits}
 use Rattle.rl_defs.specs.declared.values.Value.{Value}
 use Rattle.rl_defs.specs.declared.values.Value.TheVariants as value
-use Rattle.rl_defs.specs.declared.values.Arg.{Arg}
-use Rattle.rl_defs.specs.declared.values.Arg.TheVariants as arg
-use Rattle.rl_defs.specs.declared.values.Owner.TheVariants as owner
-use Rattle.rl_defs.specs.declared.entry.Entry.TheVariants as entry
+use Rattle.machine_defs.specs.declared.values.Arg.{Arg}
+use Rattle.machine_defs.specs.declared.values.Arg.TheVariants as arg
+use Rattle.machine_defs.specs.declared.values.Owner.TheVariants as owner
+use Rattle.machine_defs.specs.declared.entry.Entry.TheVariants as entry
 use Rattle.rl_defs.specs.declared.load.Command.TheVariants as command
-use Rattle.rl_defs.specs.Run.{AllDone}
-use Rattle.rl_defs.specs.State.{State, StackFrame, Thread, start, with_thread}
-use Rattle.rl_defs.specs.Machine.Objects.{with_new, without}
-use Rattle.rl_defs.specs.Machine.Frames.{with_top}
-use Rattle.rl_defs.specs.Machine.CallRows.{entered, after_return, command_done}
-use Rattle.rl_defs.specs.Machine.ObjectRows.{without_name}
-use Rattle.rl_defs.specs.Machine.Steps.{Step}
+use Rattle.machine_defs.specs.Runs.{AllDone}
+use Rattle.machine_defs.specs.State.{State, StackFrame, Thread, start, with_thread}
+use Rattle.machine_defs.specs.Objects.{with_new, without}
+use Rattle.machine_defs.specs.Frames.{with_top}
+use Rattle.machine_defs.specs.CallRows.{call_entered, after_return, command_done}
+use Rattle.machine_defs.specs.ObjectRows.{without_name}
+use Rattle.machine_defs.specs.Steps.{Step}
 use Rattle.worked_runs.specs.Parts.{thread, frame_at, quiet}
 use Rattle.worked_runs.specs.MovedTwice.{moved_load, moved_end, IsMovedTwice}
 use Rattle.worked_runs.proofs.Turns.{none_yet, goes_on, worked}
@@ -62,7 +62,7 @@ abbrev handing : ℕ → List (Option Value) → StackFrame
 handing at values = frame_at 1 2 2 0 its_number at values
 
 abbrev called : State
-called = entered 1 1 2 its_number (handing 3 (Some object ∷ [])) (with_thread made 1 (thread 9999 1 none))
+called = call_entered 1 1 2 its_number (handing 3 (Some object ∷ [])) (with_thread made 1 (thread 9999 1 none))
 
 calls : Step moved_load made (quiet (entry.Call 1 1 2 2 0 its_number)) called
 calls = record {
@@ -85,7 +85,7 @@ calls = record {
 
 -- and this one's call moves it into the first, behind `cap`, which cost 1
 abbrev passed_on : State
-passed_on = entered 1 2 1 its_number (frame_at 2 1 1 0 its_number 2 (Some object ∷ []))
+passed_on = call_entered 1 2 1 its_number (frame_at 2 1 1 0 its_number 2 (Some object ∷ []))
     (with_top 1 (handing 4 (None ∷ Some (value.Cap 1) ∷ [])) (with_thread called 1 (thread 9997 1 none)))
 
 passes : Step moved_load called (quiet (entry.Call 1 2 1 1 0 its_number)) passed_on

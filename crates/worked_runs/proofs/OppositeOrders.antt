@@ -1,16 +1,16 @@
 -- The run of the two clients that enter two serial loads in opposite orders, step by step.
 use Rattle.std.proofs.Common.{ℕ, zero, suc, arith, List, [], ◌∷◌, Option, Some, None, refl, true}
 use Rattle.std.specs.Fmt.{digits}
-use Rattle.rl_defs.specs.declared.values.Arg.TheVariants as arg
+use Rattle.machine_defs.specs.declared.values.Arg.TheVariants as arg
 use Rattle.rl_defs.specs.declared.values.Value.{Value}
 use Rattle.rl_defs.specs.declared.values.Value.TheVariants as value
-use Rattle.rl_defs.specs.declared.values.RpcCode.TheVariants as code
-use Rattle.rl_defs.specs.declared.entry.Entry.TheVariants as entry
-use Rattle.rl_defs.specs.State.{State, StackFrame, start, with_thread}
-use Rattle.rl_defs.specs.Run.{AllDone}
-use Rattle.rl_defs.specs.Machine.Frames.{with_top}
-use Rattle.rl_defs.specs.Machine.CallRows.{entered, numbered, after_return}
-use Rattle.rl_defs.specs.Machine.Steps.{Step}
+use Rattle.machine_defs.specs.declared.values.RpcCode.TheVariants as code
+use Rattle.machine_defs.specs.declared.entry.Entry.TheVariants as entry
+use Rattle.machine_defs.specs.State.{State, StackFrame, start, with_thread}
+use Rattle.machine_defs.specs.Runs.{AllDone}
+use Rattle.machine_defs.specs.Frames.{with_top}
+use Rattle.machine_defs.specs.CallRows.{call_entered, numbered, after_return}
+use Rattle.machine_defs.specs.Steps.{Step}
 use Rattle.worked_runs.specs.Parts.{thread, frame_at, quiet}
 use Rattle.worked_runs.specs.OppositeOrders.{opposite_orders, opposite_orders_end, IsOppositeOrders}
 use Rattle.worked_runs.proofs.Turns.{none_yet, goes_on, worked}
@@ -29,7 +29,7 @@ abbrev pub first : State
 first = start opposite_orders
 
 abbrev pub x_called : State
-x_called = entered 1 1 2 (arg.Cap 1 ∷ []) (x_go 2 (Some (value.Cap 1) ∷ [])) (with_thread first 1 (thread 9999 0 []))
+x_called = call_entered 1 1 2 (arg.Cap 1 ∷ []) (x_go 2 (Some (value.Cap 1) ∷ [])) (with_thread first 1 (thread 9999 0 []))
 
 x_calls : Step opposite_orders first (quiet (entry.Call 1 1 2 2 0 (arg.Cap 1 ∷ []))) x_called
 x_calls = record {
@@ -51,7 +51,7 @@ x_calls = record {
 }
 
 abbrev pub y_called : State
-y_called = entered 2 2 1 (arg.Cap 2 ∷ []) (y_go 2 (Some (value.Cap 2) ∷ [])) (with_thread x_called 2 (thread 9999 0 []))
+y_called = call_entered 2 2 1 (arg.Cap 2 ∷ []) (y_go 2 (Some (value.Cap 2) ∷ [])) (with_thread x_called 2 (thread 9999 0 []))
 
 y_calls : Step opposite_orders x_called (quiet (entry.Call 2 2 1 1 0 (arg.Cap 2 ∷ []))) y_called
 y_calls = record {
@@ -119,7 +119,7 @@ abbrev pub x_charged : State
 x_charged = with_top 1 (x_go 2 (Some (value.Cap 1) ∷ [])) (with_thread y_returned 1 (thread 9998 0 []))
 
 abbrev pub leaf_called : State
-leaf_called = entered 1 4 1 [] (leaf 8 []) x_charged
+leaf_called = call_entered 1 4 1 [] (leaf 8 []) x_charged
 
 leaf_calls : Step opposite_orders y_returned (quiet (entry.Call 1 4 1 1 1 [])) leaf_called
 leaf_calls = record {

@@ -2,13 +2,13 @@
 use Rattle.std.proofs.Common.{◌≡◌, arith, List, [], ◌∷◌, refl, sym, ap, ◌∙◌, inl}
 use Rattle.std.proofs.lemmas.Bool.{false≢true}
 use Rattle.std.proofs.lemmas.Option.{same_Some}
-use Rattle.rl_defs.specs.declared.entry.Entry.TheVariants as entry
-use Rattle.rl_defs.specs.declared.values.Owner.TheVariants as owner
-use Rattle.rl_defs.specs.State.{State, StackFrame, Shadow, start, with_thread}
-use Rattle.rl_defs.specs.Machine.Seen.{ended}
-use Rattle.rl_defs.specs.Machine.Calling.{is_reissuable}
-use Rattle.rl_defs.specs.Machine.CallRows.{Unwinds, IssuesAgain, Reloads, entered, reloaded}
-use Rattle.rl_defs.specs.Machine.Steps.{Turn, Step}
+use Rattle.machine_defs.specs.declared.entry.Entry.TheVariants as entry
+use Rattle.machine_defs.specs.declared.values.Owner.TheVariants as owner
+use Rattle.machine_defs.specs.State.{State, StackFrame, Shadow, start, with_thread}
+use Rattle.machine_defs.specs.Seen.{ended}
+use Rattle.machine_defs.specs.Calling.{is_reissuable}
+use Rattle.machine_defs.specs.CallRows.{Unwinds, IssuesAgain, Reloads, call_entered, reloaded}
+use Rattle.machine_defs.specs.Steps.{Turn, Step}
 use Rattle.worked_runs.specs.Parts.{thread, frame_at, quiet, freeing}
 use Rattle.worked_runs.specs.KilledInARead.{killed_in_a_read}
 use Rattle.worked_runs.specs.EndedCaller.{ended_caller}
@@ -24,7 +24,7 @@ abbrev pub size_frame : StackFrame
 size_frame = frame_at 1 2 1 0 [] 2 []
 
 abbrev pub x_called : State
-x_called = entered 1 1 1 [] size_frame (with_thread (start issued_once) 1 (thread 9999 0 []))
+x_called = call_entered 1 1 1 [] size_frame (with_thread (start issued_once) 1 (thread 9999 0 []))
 
 x_calls : Step issued_once (start issued_once) (quiet (entry.Call 1 1 2 1 0 [])) x_called
 x_calls = record {

@@ -2,17 +2,17 @@
 -- ended, and the caller's own call ends with an error.
 use Rattle.std.specs.Prelude.{true, false, List, [], ◌∷◌, codes}
 use Rattle.rl_defs.specs.declared.values.Value.TheVariants as value
-use Rattle.rl_defs.specs.declared.values.Owner.TheVariants as owner
+use Rattle.machine_defs.specs.declared.values.Owner.TheVariants as owner
 use Rattle.rl_defs.specs.declared.code.DomainLine.TheVariants as form
 use Rattle.rl_defs.specs.declared.code.Instr.TheVariants as instr
 use Rattle.rl_defs.specs.declared.tables.Kind.TheVariants as kind
 use Rattle.rl_defs.specs.declared.tables.Tables.{Tables}
-use Rattle.rl_defs.specs.declared.entry.Entry.{Entry}
-use Rattle.rl_defs.specs.declared.entry.Entry.TheVariants as entry
-use Rattle.rl_defs.specs.declared.load.Load.{Load}
+use Rattle.machine_defs.specs.declared.entry.Entry.{Entry}
+use Rattle.machine_defs.specs.declared.entry.Entry.TheVariants as entry
+use Rattle.rl_defs.specs.declared.load.LoadRows.{LoadRows}
 use Rattle.rl_defs.specs.declared.load.Command.TheVariants as command
 use Rattle.rl_defs.specs.DomainValue.{Domain}
-use Rattle.rl_defs.specs.State.{State, start}
+use Rattle.machine_defs.specs.State.{State, start}
 use Rattle.worked_runs.specs.Parts.{struct_p, tables, has_methods, method, r0, r1, r2, domain, load_of, client, plain_load, thread, instance_of}
 use Rattle.worked_runs.specs.WorkedRuns.{IsWorked}
 
@@ -50,7 +50,7 @@ caller = domain caller_tables
     ∷ [])
 
 -- client `x` calls the caller, and `y` kills it
-abbrev pub ended_caller : Load
+abbrev pub ended_caller : LoadRows
 ended_caller = record (plain_load caller_tables (maker ∷ caller ∷ []) (load_of (codes "b") 0 [] ∷ load_of (codes "a") 1 (1 ∷ []) ∷ [])
     (client (codes "x") (command.Call 2 0 [] [] ∷ []) ∷ client (codes "y") (command.Kill 2 ∷ []) ∷ [])) { order = 1 ∷ 1 ∷ 2 ∷ [] }
 
@@ -78,7 +78,8 @@ ended_caller_end = record (start ended_caller) {
 
 abbrev pub IsEndedCaller : Type 0
 IsEndedCaller = IsWorked ended_caller ended_caller_history ended_caller_end
-    (codes "c1 call 1 a/i2 s"
+    (codes "history"
+    ∷ codes "c1 call 1 a/i2 s"
     ∷ codes "c1 call 2 b/i1 m"
     ∷ codes "c2 kill i2"
     ∷ codes "c1 new i1 o1 P"
@@ -87,4 +88,9 @@ IsEndedCaller = IsWorked ended_caller ended_caller_history ended_caller_end
     ∷ codes "c2 done"
     ∷ codes "c1 unwound 1"
     ∷ codes "c1 done"
+    ∷ codes "replies"
+    ∷ codes "c1 1 error 2"
+    ∷ codes "report"
+    ∷ codes "i1 made 1 received 0 passed 1 freed 0"
+    ∷ codes "i2 made 0 received 1 passed 0 freed 1"
     ∷ [])

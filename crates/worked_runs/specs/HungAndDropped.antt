@@ -4,17 +4,17 @@ use Rattle.rl_defs.specs.declared.code.DomainLine.TheVariants as line
 use Rattle.rl_defs.specs.declared.code.Instr.{Instr}
 use Rattle.rl_defs.specs.declared.code.Instr.TheVariants as instr
 use Rattle.rl_defs.specs.declared.values.Value.TheVariants as value
-use Rattle.rl_defs.specs.declared.values.Owner.TheVariants as owner
-use Rattle.rl_defs.specs.declared.entry.Entry.{Entry}
-use Rattle.rl_defs.specs.declared.entry.Entry.TheVariants as entry
-use Rattle.rl_defs.specs.declared.load.Load.{Load}
+use Rattle.machine_defs.specs.declared.values.Owner.TheVariants as owner
+use Rattle.machine_defs.specs.declared.entry.Entry.{Entry}
+use Rattle.machine_defs.specs.declared.entry.Entry.TheVariants as entry
+use Rattle.rl_defs.specs.declared.load.LoadRows.{LoadRows}
 use Rattle.rl_defs.specs.declared.load.Command.{Command}
 use Rattle.rl_defs.specs.declared.load.Command.TheVariants as command
 use Rattle.rl_defs.specs.declared.tables.Tables.{Tables}
 use Rattle.rl_defs.specs.declared.tables.StructRow.{StructRow}
 use Rattle.rl_defs.specs.declared.tables.Kind.TheVariants as kind
 use Rattle.rl_defs.specs.DomainValue.{Domain}
-use Rattle.rl_defs.specs.State.{State, start}
+use Rattle.machine_defs.specs.State.{State, start}
 use Rattle.worked_runs.specs.Parts.{u64, struct_p, tables, has_methods, method, r0, r1, domain, load_of, client, plain_load, thread}
 use Rattle.worked_runs.specs.WorkedRuns.{IsWorked}
 
@@ -40,7 +40,7 @@ hanging last = domain hanging_tables (
     ∷ [])
 
 -- client x calls d.mk() -> q, and goes on so
-abbrev pub hanging_load : Instr → List Command → Load
+abbrev pub hanging_load : Instr → List Command → LoadRows
 hanging_load last then = plain_load hanging_tables (hanging last ∷ []) (load_of (codes "d") 0 [] ∷ [])
     (client (codes "x") (command.Call 1 0 [] (0 ∷ []) ∷ then) ∷ [])
 
@@ -54,7 +54,7 @@ hung_so_far =
     ∷ []
 
 -- it returns the Q; the client has show q and drop q
-abbrev pub dropped_load : Load
+abbrev pub dropped_load : LoadRows
 dropped_load = hanging_load (instr.Ret (r0 ∷ [])) (command.Show 0 ∷ command.Drop 0 ∷ [])
 
 abbrev pub dropped_history : List Entry
@@ -75,7 +75,8 @@ dropped_end = record (start dropped_load) {
 
 abbrev pub IsHungAndDropped : Type 0
 IsHungAndDropped = IsWorked dropped_load dropped_history dropped_end
-    (codes "c1 call 1 d/i1 mk"
+    (codes "history"
+    ∷ codes "c1 call 1 d/i1 mk"
     ∷ codes "c1 new i1 o1 Q"
     ∷ codes "c1 new i1 o2 P"
     ∷ codes "c1 hang o1 0 o2"
@@ -84,4 +85,10 @@ IsHungAndDropped = IsWorked dropped_load dropped_history dropped_end
     ∷ codes "c1 drop o1"
     ∷ codes "free o2"
     ∷ codes "c1 done"
+    ∷ codes "replies"
+    ∷ codes "c1 1 ok o1"
+    ∷ codes "c1 2 shown o2"
+    ∷ codes "report"
+    ∷ codes "c1 made 0 received 2 passed 0 freed 2"
+    ∷ codes "i1 made 2 received 0 passed 2 freed 0"
     ∷ [])

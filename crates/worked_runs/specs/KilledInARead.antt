@@ -1,18 +1,18 @@
 -- A worked run: a driver is killed while it reads a block, its object is freed, and behind its shadow the read is issued again.
 use Rattle.std.specs.Prelude.{true, false, List, [], ◌∷◌, replicate, Some, codes}
-use Rattle.rl_defs.specs.declared.values.Arg.TheVariants as arg
+use Rattle.machine_defs.specs.declared.values.Arg.TheVariants as arg
 use Rattle.rl_defs.specs.declared.values.Value.TheVariants as value
-use Rattle.rl_defs.specs.declared.values.Owner.TheVariants as owner
-use Rattle.rl_defs.specs.declared.entry.Entry.{Entry}
-use Rattle.rl_defs.specs.declared.entry.Entry.TheVariants as entry
-use Rattle.rl_defs.specs.declared.load.Load.{Load}
-use Rattle.rl_defs.specs.State.{State, Root, start}
+use Rattle.machine_defs.specs.declared.values.Owner.TheVariants as owner
+use Rattle.machine_defs.specs.declared.entry.Entry.{Entry}
+use Rattle.machine_defs.specs.declared.entry.Entry.TheVariants as entry
+use Rattle.rl_defs.specs.declared.load.LoadRows.{LoadRows}
+use Rattle.machine_defs.specs.State.{State, Root, start}
 use Rattle.worked_runs.specs.Parts.{repeatable, client, thread, instance_of}
 use Rattle.worked_runs.specs.WorkedRuns.{IsWorked}
 use Rattle.worked_runs.specs.Driver.{device_tables, driver_load, read_block, kill_disk}
 
 -- client `x` reads block 0, and `y` kills the driver
-abbrev pub killed_in_a_read : Load
+abbrev pub killed_in_a_read : LoadRows
 killed_in_a_read = driver_load (device_tables repeatable) (client (codes "x") (read_block 0 ∷ []) ∷ client (codes "y") (kill_disk ∷ []) ∷ []) (1 ∷ 1 ∷ 2 ∷ [])
 
 abbrev pub killed_in_a_read_history : List Entry
@@ -43,7 +43,8 @@ killed_in_a_read_end = record (start killed_in_a_read) {
 
 abbrev pub IsKilledInARead : Type 0
 IsKilledInARead = IsWorked killed_in_a_read killed_in_a_read_history killed_in_a_read_end
-    (codes "c1 call 1 disk/i1 read 0"
+    (codes "history"
+    ∷ codes "c1 call 1 disk/i1 read 0"
     ∷ codes "c1 new i1 o1 Block"
     ∷ codes "c2 kill i1"
     ∷ codes "free o1"
@@ -54,4 +55,11 @@ IsKilledInARead = IsWorked killed_in_a_read killed_in_a_read_history killed_in_a
     ∷ codes "c1 devget o2 0"
     ∷ codes "c1 ret 1 o2"
     ∷ codes "c1 done"
+    ∷ codes "replies"
+    ∷ codes "c1 1 ok o2"
+    ∷ codes "report"
+    ∷ codes "o2 Block c1 0"
+    ∷ codes "c1 made 0 received 1 passed 0 freed 0"
+    ∷ codes "i1 made 1 received 0 passed 0 freed 1"
+    ∷ codes "i2 made 1 received 0 passed 1 freed 0"
     ∷ [])

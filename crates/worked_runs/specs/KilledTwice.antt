@@ -1,16 +1,16 @@
 -- A worked run: two clients are in a driver that a third one kills twice. Behind the driver's shadow, which has one restart, their calls
 -- are issued again the first time, and end with an error the second time.
 use Rattle.std.specs.Prelude.{true, false, List, [], ◌∷◌, codes}
-use Rattle.rl_defs.specs.declared.values.RpcCode.TheVariants as code
-use Rattle.rl_defs.specs.declared.entry.Entry.{Entry}
-use Rattle.rl_defs.specs.declared.entry.Entry.TheVariants as entry
-use Rattle.rl_defs.specs.declared.load.Load.{Load}
-use Rattle.rl_defs.specs.State.{State, start}
+use Rattle.machine_defs.specs.declared.values.RpcCode.TheVariants as code
+use Rattle.machine_defs.specs.declared.entry.Entry.{Entry}
+use Rattle.machine_defs.specs.declared.entry.Entry.TheVariants as entry
+use Rattle.rl_defs.specs.declared.load.LoadRows.{LoadRows}
+use Rattle.machine_defs.specs.State.{State, start}
 use Rattle.worked_runs.specs.Parts.{repeatable, client, thread, instance_of}
 use Rattle.worked_runs.specs.WorkedRuns.{IsWorked}
 use Rattle.worked_runs.specs.Driver.{device_tables, driver_load, call_size, kill_disk}
 
-abbrev pub killed_twice : Load
+abbrev pub killed_twice : LoadRows
 killed_twice = driver_load (device_tables repeatable)
     (client (codes "x") (call_size ∷ []) ∷ client (codes "y") (call_size ∷ []) ∷ client (codes "z") (kill_disk ∷ kill_disk ∷ call_size ∷ []) ∷ [])
     (1 ∷ 2 ∷ 3 ∷ 1 ∷ [])
@@ -43,7 +43,8 @@ killed_twice_end = record (start killed_twice) {
 
 abbrev pub IsKilledTwice : Type 0
 IsKilledTwice = IsWorked killed_twice killed_twice_history killed_twice_end
-    (codes "c1 call 1 disk/i1 size"
+    (codes "history"
+    ∷ codes "c1 call 1 disk/i1 size"
     ∷ codes "c2 call 2 disk/i1 size"
     ∷ codes "c3 kill i1"
     ∷ codes "c1 reload disk i2 0"
@@ -56,4 +57,9 @@ IsKilledTwice = IsWorked killed_twice killed_twice_history killed_twice_end
     ∷ codes "c3 refuse 3 gone disk size"
     ∷ codes "c2 done"
     ∷ codes "c3 done"
+    ∷ codes "replies"
+    ∷ codes "c1 1 error 2"
+    ∷ codes "c2 1 error 2"
+    ∷ codes "c3 3 error 1"
+    ∷ codes "report"
     ∷ [])

@@ -4,17 +4,17 @@ use Rattle.rl_defs.specs.declared.code.DomainLine.TheVariants as line
 use Rattle.rl_defs.specs.declared.code.Instr.TheVariants as instr
 use Rattle.rl_defs.specs.declared.code.CallArg.TheVariants as passes
 use Rattle.rl_defs.specs.declared.code.HeadKind.TheVariants as head
-use Rattle.rl_defs.specs.declared.values.Arg.TheVariants as arg
+use Rattle.machine_defs.specs.declared.values.Arg.TheVariants as arg
 use Rattle.rl_defs.specs.declared.values.Value.TheVariants as value
-use Rattle.rl_defs.specs.declared.values.Owner.TheVariants as owner
-use Rattle.rl_defs.specs.declared.entry.Entry.{Entry}
-use Rattle.rl_defs.specs.declared.entry.Entry.TheVariants as entry
-use Rattle.rl_defs.specs.declared.load.Load.{Load}
+use Rattle.machine_defs.specs.declared.values.Owner.TheVariants as owner
+use Rattle.machine_defs.specs.declared.entry.Entry.{Entry}
+use Rattle.machine_defs.specs.declared.entry.Entry.TheVariants as entry
+use Rattle.rl_defs.specs.declared.load.LoadRows.{LoadRows}
 use Rattle.rl_defs.specs.declared.load.Command.TheVariants as command
 use Rattle.rl_defs.specs.declared.tables.Tables.{Tables}
 use Rattle.rl_defs.specs.declared.tables.Kind.TheVariants as kind
 use Rattle.rl_defs.specs.DomainValue.{Domain}
-use Rattle.rl_defs.specs.State.{State, start}
+use Rattle.machine_defs.specs.State.{State, start}
 use Rattle.worked_runs.specs.Parts.{u64, struct_p, tables, has_methods, method, r0, r1, r2, r3, item, domain, load_of, client, plain_load, thread, instance_of}
 use Rattle.worked_runs.specs.WorkedRuns.{IsWorked}
 
@@ -71,7 +71,7 @@ lending = domain lending_tables (
     ∷ [])
 
 -- client x calls a.s(), client y kills a; x has three turns before each of y's
-abbrev pub lent_load : Load
+abbrev pub lent_load : LoadRows
 lent_load = record (plain_load lending_tables (reading ∷ lending_on ∷ lending ∷ [])
     (load_of (codes "f") 0 [] ∷ load_of (codes "e") 1 (1 ∷ []) ∷ load_of (codes "a") 2 (2 ∷ []) ∷ [])
     (client (codes "x") (command.Call 3 0 [] [] ∷ []) ∷ client (codes "y") (command.Kill 3 ∷ []) ∷ [])) {
@@ -110,7 +110,8 @@ lent_end = record (start lent_load) {
 
 abbrev pub IsLentWhileKilled : Type 0
 IsLentWhileKilled = IsWorked lent_load lent_history lent_end
-    (codes "c1 call 1 a/i3 s"
+    (codes "history"
+    ∷ codes "c1 call 1 a/i3 s"
     ∷ codes "c1 new i3 o1 P"
     ∷ codes "c1 call 2 e/i2 l &o1"
     ∷ codes "c2 kill i3"
@@ -121,4 +122,8 @@ IsLentWhileKilled = IsWorked lent_load lent_history lent_end
     ∷ codes "c2 done"
     ∷ codes "c1 unwound 1"
     ∷ codes "c1 done"
+    ∷ codes "replies"
+    ∷ codes "c1 1 error 2"
+    ∷ codes "report"
+    ∷ codes "i3 made 1 received 0 passed 0 freed 1"
     ∷ [])

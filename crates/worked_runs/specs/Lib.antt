@@ -9,4 +9,11 @@ pub mod KilledTwice
 pub mod KilledInARead
 pub mod EndedCaller
 pub mod OppositeOrders
+pub mod PutTwice
+pub mod GoneAndSkipped
+pub mod OutOfFuel
+pub mod KeptInStore
+pub mod NativeOverDriver
+pub mod TrapAgain
+pub mod FullStack
 pub mod Wrong

@@ -3,18 +3,18 @@ use Rattle.std.specs.Prelude.{true, List, [], ◌∷◌, None, codes}
 use Rattle.rl_defs.specs.declared.code.DomainLine.TheVariants as line
 use Rattle.rl_defs.specs.declared.code.Instr.TheVariants as instr
 use Rattle.rl_defs.specs.declared.code.CallArg.TheVariants as passes
-use Rattle.rl_defs.specs.declared.values.Arg.TheVariants as arg
+use Rattle.machine_defs.specs.declared.values.Arg.TheVariants as arg
 use Rattle.rl_defs.specs.declared.values.Value.TheVariants as value
-use Rattle.rl_defs.specs.declared.values.Owner.TheVariants as owner
-use Rattle.rl_defs.specs.declared.entry.Entry.{Entry}
-use Rattle.rl_defs.specs.declared.entry.Entry.TheVariants as entry
-use Rattle.rl_defs.specs.declared.load.Load.{Load}
+use Rattle.machine_defs.specs.declared.values.Owner.TheVariants as owner
+use Rattle.machine_defs.specs.declared.entry.Entry.{Entry}
+use Rattle.machine_defs.specs.declared.entry.Entry.TheVariants as entry
+use Rattle.rl_defs.specs.declared.load.LoadRows.{LoadRows}
 use Rattle.rl_defs.specs.declared.load.Command.TheVariants as command
 use Rattle.rl_defs.specs.declared.load.ScriptArg.TheVariants as given
 use Rattle.rl_defs.specs.declared.tables.Tables.{Tables}
 use Rattle.rl_defs.specs.declared.tables.Kind.TheVariants as kind
 use Rattle.rl_defs.specs.DomainValue.{Domain}
-use Rattle.rl_defs.specs.State.{State, start}
+use Rattle.machine_defs.specs.State.{State, start}
 use Rattle.worked_runs.specs.Parts.{struct_p, tables, has_methods, method, r0, r1, r2, domain, load_of, client, plain_load, thread}
 use Rattle.worked_runs.specs.WorkedRuns.{IsWorked}
 
@@ -48,7 +48,7 @@ handing_on = domain pass_tables (
     ∷ [])
 
 -- let o = new P 7; call a.p(o) -> q; drop q
-abbrev pub moved_load : Load
+abbrev pub moved_load : LoadRows
 moved_load = plain_load pass_tables (returning ∷ handing_on ∷ [])
     (load_of (codes "b") 0 [] ∷ load_of (codes "a") 1 (1 ∷ []) ∷ [])
     (client (codes "x") (command.Let 0 0 (7 ∷ []) ∷ command.Call 2 0 (given.Name 0 ∷ []) (1 ∷ []) ∷ command.Drop 1 ∷ []) ∷ [])
@@ -74,11 +74,18 @@ moved_end = record (start moved_load) {
 
 abbrev pub IsMovedTwice : Type 0
 IsMovedTwice = IsWorked moved_load moved_history moved_end
-    (codes "c1 new c1 o1 P 7"
+    (codes "history"
+    ∷ codes "c1 new c1 o1 P 7"
     ∷ codes "c1 call 1 a/i2 p o1"
     ∷ codes "c1 call 2 b/i1 p o1"
     ∷ codes "c1 ret 2 o1"
     ∷ codes "c1 ret 1 o1"
     ∷ codes "c1 drop o1"
     ∷ codes "c1 done"
+    ∷ codes "replies"
+    ∷ codes "c1 2 ok o1"
+    ∷ codes "report"
+    ∷ codes "c1 made 1 received 1 passed 1 freed 1"
+    ∷ codes "i1 made 0 received 1 passed 1 freed 0"
+    ∷ codes "i2 made 0 received 2 passed 2 freed 0"
     ∷ [])

@@ -1,22 +1,22 @@
 -- A worked run: two clients enter two serial loads, each first the one that the other enters last. One call would go against the order of
 -- the loads and is refused; the other waits until its load is free.
 use Rattle.std.specs.Prelude.{ℕ, true, List, [], ◌∷◌, codes}
-use Rattle.rl_defs.specs.declared.values.Arg.TheVariants as arg
+use Rattle.machine_defs.specs.declared.values.Arg.TheVariants as arg
 use Rattle.rl_defs.specs.declared.values.Value.TheVariants as value
-use Rattle.rl_defs.specs.declared.values.RpcCode.TheVariants as code
+use Rattle.machine_defs.specs.declared.values.RpcCode.TheVariants as code
 use Rattle.rl_defs.specs.declared.code.HeadKind.TheVariants as head
 use Rattle.rl_defs.specs.declared.code.DomainLine.TheVariants as form
 use Rattle.rl_defs.specs.declared.code.Instr.TheVariants as instr
 use Rattle.rl_defs.specs.declared.tables.Kind.TheVariants as kind
 use Rattle.rl_defs.specs.declared.tables.Tables.{Tables}
-use Rattle.rl_defs.specs.declared.entry.Entry.{Entry}
-use Rattle.rl_defs.specs.declared.entry.Entry.TheVariants as entry
-use Rattle.rl_defs.specs.declared.load.Load.{Load}
+use Rattle.machine_defs.specs.declared.entry.Entry.{Entry}
+use Rattle.machine_defs.specs.declared.entry.Entry.TheVariants as entry
+use Rattle.rl_defs.specs.declared.load.LoadRows.{LoadRows}
 use Rattle.rl_defs.specs.declared.load.Command.{Command}
 use Rattle.rl_defs.specs.declared.load.Command.TheVariants as command
 use Rattle.rl_defs.specs.declared.load.ScriptArg.TheVariants as given
 use Rattle.rl_defs.specs.DomainValue.{Domain}
-use Rattle.rl_defs.specs.State.{State, start}
+use Rattle.machine_defs.specs.State.{State, start}
 use Rattle.worked_runs.specs.Parts.{u64, tables, has_methods, method, r0, r1, r2, item, domain, serial_load, client, plain_load, thread}
 use Rattle.worked_runs.specs.WorkedRuns.{IsWorked}
 
@@ -44,7 +44,7 @@ leaf_domain = domain leaf_tables
 abbrev pub call_go : ℕ → ℕ → Command
 call_go target other = command.Call target 0 (given.Target other ∷ []) []
 
-abbrev pub opposite_orders : Load
+abbrev pub opposite_orders : LoadRows
 opposite_orders = plain_load leaf_tables (leaf_domain ∷ []) (serial_load (codes "p") 0 [] ∷ serial_load (codes "q") 0 [] ∷ [])
     (client (codes "x") (call_go 2 1 ∷ []) ∷ client (codes "y") (call_go 1 2 ∷ []) ∷ [])
 
@@ -70,7 +70,8 @@ opposite_orders_end = record (start opposite_orders) {
 
 abbrev pub IsOppositeOrders : Type 0
 IsOppositeOrders = IsWorked opposite_orders opposite_orders_history opposite_orders_end
-    (codes "c1 call 1 q/i2 go @p"
+    (codes "history"
+    ∷ codes "c1 call 1 q/i2 go @p"
     ∷ codes "c2 call 2 p/i1 go @q"
     ∷ codes "c2 refuse 3 order q leaf"
     ∷ codes "c2 ret 2 4"
@@ -79,4 +80,8 @@ IsOppositeOrders = IsWorked opposite_orders opposite_orders_history opposite_ord
     ∷ codes "c1 ret 4 9"
     ∷ codes "c1 ret 1 9"
     ∷ codes "c1 done"
+    ∷ codes "replies"
+    ∷ codes "c2 1 ok 4"
+    ∷ codes "c1 1 ok 9"
+    ∷ codes "report"
     ∷ [])

@@ -7,10 +7,10 @@ use Rattle.rl_defs.specs.declared.code.Register.{Register}
 use Rattle.rl_defs.specs.declared.code.HeadItem.{HeadItem}
 use Rattle.rl_defs.specs.declared.code.HeadKind.{HeadKind}
 use Rattle.rl_defs.specs.declared.values.Value.{Value}
-use Rattle.rl_defs.specs.declared.values.Arg.{Arg}
-use Rattle.rl_defs.specs.declared.frame.FrameBody.TheVariants as body
-use Rattle.rl_defs.specs.declared.entry.Entry.{Entry}
-use Rattle.rl_defs.specs.declared.load.Load.{Load}
+use Rattle.machine_defs.specs.declared.values.Arg.{Arg}
+use Rattle.machine_defs.specs.declared.frame.FrameBody.TheVariants as body
+use Rattle.machine_defs.specs.declared.entry.Entry.{Entry}
+use Rattle.rl_defs.specs.declared.load.LoadRows.{LoadRows}
 use Rattle.rl_defs.specs.declared.load.LoadRow.{LoadRow}
 use Rattle.rl_defs.specs.declared.load.ClientRow.{ClientRow}
 use Rattle.rl_defs.specs.declared.load.Command.{Command}
@@ -22,9 +22,9 @@ use Rattle.rl_defs.specs.declared.tables.Kind.{Kind}
 use Rattle.rl_defs.specs.declared.tables.Kind.TheVariants as kind
 use Rattle.rl_defs.specs.declared.tables.Width.TheVariants as width
 use Rattle.rl_defs.specs.DomainValue.{Domain}
-use Rattle.rl_defs.specs.State.{StackFrame, Thread, Instance}
-use Rattle.rl_defs.specs.Machine.Frames.{frame_of}
-use Rattle.rl_defs.specs.Machine.Steps.{Turn}
+use Rattle.machine_defs.specs.State.{StackFrame, Thread, Instance}
+use Rattle.machine_defs.specs.Frames.{frame_of}
+use Rattle.machine_defs.specs.Steps.{Turn}
 
 -- the kind of a `u64`
 abbrev pub u64 : Kind
@@ -99,7 +99,7 @@ abbrev pub client : List ℕ → List Command → ClientRow
 client name commands = record { name = name; commands = commands }
 
 -- a load with no shadow, no order line, the usual fuel and no device
-abbrev pub plain_load : Tables → List Domain → List LoadRow → List ClientRow → Load
+abbrev pub plain_load : Tables → List Domain → List LoadRow → List ClientRow → LoadRows
 plain_load of domains loads clients = record {
   tables = of;
   domains = domains;

@@ -1,11 +1,11 @@
 -- Histories that begin as that of a run, and go on as none does.
 use Rattle.std.specs.Prelude.{List, [], ◌∷◌, ◌++◌, codes}
 use Rattle.rl_defs.specs.declared.values.Value.TheVariants as value
-use Rattle.rl_defs.specs.declared.entry.Entry.{Entry}
-use Rattle.rl_defs.specs.declared.entry.Entry.TheVariants as entry
-use Rattle.rl_defs.specs.declared.load.Load.{Load}
-use Rattle.rl_defs.specs.State.{State}
-use Rattle.rl_defs.specs.Machine.Runs.{Run}
+use Rattle.machine_defs.specs.declared.entry.Entry.{Entry}
+use Rattle.machine_defs.specs.declared.entry.Entry.TheVariants as entry
+use Rattle.rl_defs.specs.declared.load.LoadRows.{LoadRows}
+use Rattle.machine_defs.specs.State.{State}
+use Rattle.machine_defs.specs.Runs.{Run}
 use Rattle.worked_runs.specs.Parts.{method, client}
 use Rattle.worked_runs.specs.Driver.{device_tables, driver_load, call_size, kill_disk}
 use Rattle.worked_runs.specs.KilledInARead.{killed_in_a_read}
@@ -13,13 +13,13 @@ use Rattle.worked_runs.specs.EndedCaller.{ended_caller}
 use Rattle.worked_runs.specs.LentWhileKilled.{lent_load, lent_up_to_kill, lent_before_last}
 
 -- the first entries are a run of the load, and with the others behind them they are none
-pub record IsWrong (L : Load) (before wrong : List Entry) : Type 0 where
+pub record IsWrong (L : LoadRows) (before wrong : List Entry) : Type 0 where
   pub end : State
   pub begun : Run L before end
   pub never : (s : State) → Run L (before ++ wrong) s → ⊥
 
 -- A driver whose methods may be issued once only. Client `y` kills it while `x` is in it, and has it loaded again by a call of its own.
-abbrev pub issued_once : Load
+abbrev pub issued_once : LoadRows
 issued_once = driver_load (device_tables method) (client (codes "x") (call_size ∷ []) ∷ client (codes "y") (kill_disk ∷ call_size ∷ []) ∷ []) []
 
 -- the call of `x` is not issued again
