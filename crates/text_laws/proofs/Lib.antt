@@ -1,0 +1,12 @@
+pub mod Tokens
+pub mod Spelled
+pub mod Named
+pub mod Told
+pub mod Fields
+pub mod EntryKinds
+pub mod Apart
+pub mod OneLine
+pub mod AcceptedWords
+pub mod NewStructs
+pub mod RunRows
+pub mod ToldRuns
