@@ -1,17 +1,19 @@
 -- How a call begins.
 use Rattle.std.proofs.Common.{◌≡◌, sym, ◌∙◌, ap, subst, ℕ, ◌≤◌, false, List, length, map, Some, arith}
 use Rattle.std.proofs.lemmas.List.{length-map}
-use Rattle.rl_defs.specs.declared.values.Arg.{Arg}
+use Rattle.machine_defs.specs.declared.values.Arg.{Arg}
 use Rattle.rl_defs.specs.DomainValue.{Domain}
 use Rattle.rl_defs.specs.Domains.{is_native, body_of_function}
 use Rattle.rl_defs.specs.CodeNames.{domain_trait}
-use Rattle.rl_defs.specs.Crossing.{value_of, entry_registers}
-use Rattle.rl_defs.specs.Instructions.{Registers}
-use Rattle.rl_defs.specs.CodeFits.{KeepsRules, Typing, FitsStand}
-use Rattle.rl_defs.specs.LineRows.{entry_of, entry_at}
-use Rattle.rl_defs.specs.CodeLaws.{FitsArguments}
+use Rattle.machine_defs.specs.Arguments.{value_of, entry_registers}
+use Rattle.rl_defs.specs.Registers.{Registers}
+use Rattle.rl_defs.specs.CodeRules.{KeepsRules}
+use Rattle.rl_defs.specs.Registers.{Typing}
+use Rattle.machine_defs.specs.CodeFits.{FitsStand}
+use Rattle.rl_defs.specs.CodeNames.{entry_of, entry_at}
+use Rattle.machine_defs.specs.CodeLaws.{FitsArguments}
 use Rattle.rl_defs.proofs.TableSizes.{small_method}
-use Rattle.rl_defs.proofs.CodeEntries.{as_many, entries_fit}
+use Rattle.machine_defs.proofs.CodeEntries.{as_many, entries_fit}
 
 -- a call has few arguments
 pub few_given : (d : Domain) (types : Typing) (m : ℕ) (args : List Arg) → KeepsRules d → FitsArguments types d m args → length args ≤ 32

@@ -5,23 +5,26 @@ use Rattle.std.proofs.lemmas.Option.{slice_get_past, slice_get_read}
 use Rattle.rl_defs.specs.declared.bundle.Numbered.{Numbered}
 use Rattle.rl_defs.specs.declared.code.DomainLine.{DomainLine}
 use Rattle.rl_defs.specs.Domains.{Lines}
-use Rattle.rl_defs.specs.declared.values.Cause.TheVariants as cause
-use Rattle.rl_defs.specs.declared.frame.Action.{Action}
-use Rattle.rl_defs.specs.declared.frame.Action.TheVariants as action
+use Rattle.machine_defs.specs.declared.values.Cause.TheVariants as cause
+use Rattle.machine_defs.specs.declared.frame.Action.{Action}
+use Rattle.machine_defs.specs.declared.frame.Action.TheVariants as action
 use Rattle.rl_defs.specs.declared.code.Instr.{Instr}
 use Rattle.rl_defs.specs.declared.code.DomainLine.TheVariants as line
 use Rattle.rl_defs.specs.DomainValue.{Domain}
-use Rattle.rl_defs.specs.Sight.{Sight}
+use Rattle.machine_defs.specs.Sight.{Sight}
 use Rattle.rl_defs.specs.CodeNames.{cells_of}
 use Rattle.rl_defs.specs.CodeKinds.{kinds_at}
-use Rattle.rl_defs.specs.CodeRules.{label_of, place_of_label}
-use Rattle.rl_defs.specs.Instructions.{Registers, Stand, Outcome, Works, Jumps, Would, behind_heads, through, entered_line, jumped, work, Before, go_on, settle, meaning}
-use Rattle.rl_defs.specs.CodeFits.{KeepsRules, Typing, FitsStand, FitsSight, is_number_cell}
+use Rattle.rl_defs.specs.CodeNames.{label_of, place_of_label}
+use Rattle.rl_defs.specs.Registers.{Registers, Stand, behind_heads, through}
+use Rattle.machine_defs.specs.Instructions.{Outcome, Works, Jumps, Would, entered_line, jumped, work, Before, go_on, settle, meaning}
+use Rattle.rl_defs.specs.CodeRules.{KeepsRules}
+use Rattle.rl_defs.specs.Registers.{Typing}
+use Rattle.machine_defs.specs.CodeFits.{FitsStand, FitsSight, is_number_cell}
 use Rattle.rl_defs.proofs.Places.{drop_at}
-use Rattle.rl_defs.proofs.CodeSafe.{Safe, work_is, finds, safe_at, settles}
-use Rattle.rl_defs.proofs.CodeStands.{comes_to_code, stands_next, has_place, place_head, stands_jumped, jumps_to}
+use Rattle.machine_defs.proofs.CodeSafe.{Safe, work_is, finds, safe_at, settles}
+use Rattle.machine_defs.proofs.CodeStands.{comes_to_code, stands_next, has_place, place_head, stands_jumped, jumps_to}
 use Rattle.rl_defs.proofs.TableSizes.{small_struct}
-use Rattle.code_machine.specs.Fitting.{Fitting, AtInstr, IsNear, GoesToLabel}
+use Rattle.code_machine.specs.Fitting.{standing, Fitting, AtInstr, IsNear, GoesToLabel}
 
 no_number : (o : Option ℕ) → is_some o ≡ false → o ≡ None
 no_number None e = refl
@@ -42,7 +45,7 @@ line_here xs lines n l i same within is form =
     ∙ ap (λ (f : DomainLine). Some (record { line = l.line; form = f })) (ap (λ (x : Numbered DomainLine). x.form) is ∙ form)
 
 -- the instruction that is there is what is found there
-pub work_means : (d : Domain) (sight : Sight) (live : ℕ) (s : Stand) (number : ℕ) (i : Instr) → KeepsRules d → Fitting d sight s → slice_get d.lines s.at ≡ Some (record { line = number; form = line.Code i }) → work d sight live s ≡ meaning d s.at (kinds_at d s.at) sight live s.regs i
+pub work_means : (d : Domain) (sight : Sight) (live : ℕ) (s : Stand) (number : ℕ) (i : Instr) → KeepsRules d → Fitting d sight s → slice_get d.lines s.at ≡ Some (record { line = number; form = line.Code i }) → work d sight live s ≡ meaning d s.at sight live s.regs i
 work_means d sight live s number i keeps fitting here = work_is d sight live s number i here (finds d fitting.types s number i keeps fitting.stand here)
 
 -- a frame that fits and stands before an instruction
@@ -127,7 +130,3 @@ ends_fitting d types sight live fuel rest s t act keeps is stand sees =
     let e : Before comes.act comes.rest comes.stand ≡ Before act rest t = sym comes.settles ∙ is in
     let same : comes.stand ≡ t = cc in
     subst (λ x. FitsStand types d x) same comes.fits
-
--- a stand with other registers
-abbrev pub standing : ℕ → Registers → Stand
-standing n regs = record { at = n; regs = regs }

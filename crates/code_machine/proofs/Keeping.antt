@@ -6,14 +6,14 @@ use Rattle.std.proofs.Math.ListN.{length-set, drop_of_length-le}
 use Rattle.std.proofs.lemmas.List.{length-replicate}
 use Rattle.std.proofs.lemmas.Bool.{eqb-true, ne_eqb}
 use lib.Dec.{eqb-suc-suc}
-use Rattle.rl_defs.specs.declared.values.Arg.{Arg}
+use Rattle.machine_defs.specs.declared.values.Arg.{Arg}
 use Rattle.rl_defs.specs.declared.values.Value.{Value}
 use Rattle.rl_defs.specs.declared.code.Register.{Register}
 use Rattle.rl_defs.specs.declared.code.HeadItem.{HeadItem}
-use Rattle.rl_defs.specs.Crossing.{value_of}
-use Rattle.rl_defs.specs.Instructions.{Registers, value_in, with_value, is_listed, kept}
-use Rattle.rl_defs.specs.CodeFits.{put_values}
-use Rattle.rl_defs.proofs.CodeRegisters.{keep_at, length-keep}
+use Rattle.machine_defs.specs.Arguments.{value_of}
+use Rattle.rl_defs.specs.Registers.{Registers, value_in, with_value, is_listed, kept}
+use Rattle.machine_defs.specs.Instructions.{put_values}
+use Rattle.machine_defs.proofs.CodeRegisters.{keep_at, length-keep}
 
 -- the listed registers of one frame, put into another
 abbrev pub put_back : List HeadItem → Registers → Registers → Registers

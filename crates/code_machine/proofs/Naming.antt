@@ -5,9 +5,9 @@ use Rattle.std.specs.List.{list_all}
 use Rattle.std.proofs.lemmas.Bool.{eqb-true}
 use Rattle.std.proofs.lemmas.Option.{slice_get_within}
 use Rattle.rl_defs.specs.declared.values.Value.TheVariants as value
-use Rattle.rl_defs.specs.declared.values.Cause.TheVariants as cause
-use Rattle.rl_defs.specs.declared.frame.Action.{Action}
-use Rattle.rl_defs.specs.declared.frame.Action.TheVariants as action
+use Rattle.machine_defs.specs.declared.values.Cause.TheVariants as cause
+use Rattle.machine_defs.specs.declared.frame.Action.{Action}
+use Rattle.machine_defs.specs.declared.frame.Action.TheVariants as action
 use Rattle.rl_defs.specs.declared.code.Register.{Register}
 use Rattle.rl_defs.specs.declared.code.RegKind.{RegKind}
 use Rattle.rl_defs.specs.declared.code.RegKind.TheVariants as held
@@ -19,20 +19,25 @@ use Rattle.rl_defs.specs.declared.tables.Kind.{Kind}
 use Rattle.rl_defs.specs.declared.tables.MethodRow.{MethodRow}
 use Rattle.rl_defs.specs.declared.tables.Tables.{Tables}
 use Rattle.rl_defs.specs.DomainValue.{Domain}
-use Rattle.rl_defs.specs.Sight.{Sight}
-use Rattle.rl_defs.specs.CodeNames.{Function, function_at, cells_of, methods_of, method_number, row_at, params_of, results_of, method_of_function, method_at, domain_trait}
+use Rattle.machine_defs.specs.Sight.{Sight}
+use Rattle.rl_defs.specs.CodeNames.{Function, function_at, cells_of, methods_of, method_number, method_named, row_at, params_of, results_of, method_of_function, method_at, domain_trait}
 use Rattle.rl_defs.specs.CodeKinds.{Kinds, kinds_at, kind_in, Owned, Target, read_of_arg, method_called, hung_in, hung_at, as_register}
-use Rattle.rl_defs.specs.CodeRules.{meets, is_met, reads_are_met, operands_suit, object_struct, has_counts, results_suit, same_kind}
-use Rattle.rl_defs.specs.Instructions.{Registers, Works, Would, with_value, with_number, value_in, number_in, object_in, target, bit, unless_trap, setting, cell_kind, slot_number, import_number, trait_of_kind, args_fit, given_by, values_fit, result_in, meaning}
-use Rattle.rl_defs.specs.CodeFits.{AreTablesSmall}
+use Rattle.rl_defs.specs.CodeRules.{meets, is_met, reads_are_met, operands_suit, has_counts, results_suit, same_kind}
+use Rattle.rl_defs.specs.Registers.{Registers, with_value, value_in}
+use Rattle.machine_defs.specs.Instructions.{Works, Would, with_number, number_in, object_in, target, bit, unless_trap, setting, struct_in, trait_in, cell_kind, args_fit, given_by, values_fit, result_in, meaning}
+use Rattle.rl_defs.specs.CodeNames.{slot_number, import_number}
+use Rattle.rl_defs.specs.CodeKinds.{trait_of_kind}
+use Rattle.rl_defs.specs.TableSizes.{AreTablesSmall}
 use Rattle.rl_defs.specs.CodeNames.{struct_number}
 use Rattle.rl_defs.specs.LineRows.{Names, number_of_function}
-use Rattle.rl_defs.proofs.CodeRegisters.{and_left, and_right}
-use Rattle.rl_defs.proofs.CodeStands.{keeps_at, KeptLine}
+use Rattle.machine_defs.proofs.CodeRegisters.{and_left, and_right}
+use Rattle.machine_defs.proofs.CodeStands.{keeps_at, KeptLine}
 use Rattle.rl_defs.proofs.TableSizes.{small_method, small_struct}
 use Rattle.code_machine.specs.declared.went.Went.{Went}
 use Rattle.code_machine.specs.Went.{Comes}
-use Rattle.code_machine.specs.Fitting.{IsLine}
+use Rattle.code_machine.specs.Fitting.{Fitting, IsLine}
+use Rattle.rl_defs.specs.Registers.{Typing}
+use Rattle.machine_defs.proofs.CodeTypes.{object_is, owned_object, target_is, called_is_named}
 
 abbrev pub Named : Domain → ℕ → ℕ → ℕ → ℕ → Type 0
 Named d n number of label = (k : ℕ) (i : Instr) → slice_get d.lines n ≡ Some (record { line = k; form = line.Code i }) → Names d n i number of label
@@ -49,12 +54,12 @@ at_line d n i j number of label is names e =
     record { is = there; kept = keeps_at d n there.number (line.Code j) there.keeps there.here; names = names there.number j there.here }
 
 -- what the instruction means that is known
-pub means : (d : Domain) (n : ℕ) (sight : Sight) (live : ℕ) (before behind : Registers) (w : Went) (i j : Instr) → i ≡ j → Comes (meaning d n (kinds_at d n) sight live before j) before behind w → Comes (meaning d n (kinds_at d n) sight live before i) before behind w
-means d n sight live before behind w i j e comes = subst (λ x. Comes (meaning d n (kinds_at d n) sight live before x) before behind w) (sym e) comes
+pub means : (d : Domain) (n : ℕ) (sight : Sight) (live : ℕ) (before behind : Registers) (w : Went) (i j : Instr) → i ≡ j → Comes (meaning d n sight live before j) before behind w → Comes (meaning d n sight live before i) before behind w
+means d n sight live before behind w i j e comes = subst (λ x. Comes (meaning d n sight live before x) before behind w) (sym e) comes
 
 -- the action of the instruction that is known
-pub acts : (d : Domain) (n : ℕ) (sight : Sight) (live : ℕ) (regs : Registers) (w : Action) (i j : Instr) → i ≡ j → meaning d n (kinds_at d n) sight live regs j ≡ Would w → meaning d n (kinds_at d n) sight live regs i ≡ Would w
-acts d n sight live regs w i j e would = subst (λ x. meaning d n (kinds_at d n) sight live regs x ≡ Would w) (sym e) would
+pub acts : (d : Domain) (n : ℕ) (sight : Sight) (live : ℕ) (regs : Registers) (w : Action) (i j : Instr) → i ≡ j → meaning d n sight live regs j ≡ Would w → meaning d n sight live regs i ≡ Would w
+acts d n sight live regs w i j e would = subst (λ x. meaning d n sight live regs x ≡ Would w) (sym e) would
 
 pub has_comes : (d : Domain) (n : ℕ) (sight : Sight) (before behind : Registers) (w : Went) (a : Register) (slot : List ℕ) (number of label : ℕ) → At d n (instr.Has a slot) number of label → Comes (Works (with_number before a (bit (is_some (sight.slot number))))) before behind w → Comes (Works (with_number before a (bit (is_some (sight.slot (slot_number d slot)))))) before behind w
 has_comes d n sight before behind w a slot number of label at comes =
@@ -76,17 +81,15 @@ pub put_comes : (d : Domain) (n : ℕ) (sight : Sight) (regs : Registers) (w : A
 put_comes d n sight regs w a slot number of label at comes =
     subst (λ k. unless_trap (is_none (sight.slot k)) cause.Full (action.Put k (object_in regs a)) ≡ Would w) (at.names.named (slot_number d slot) refl) comes
 
-owned_struct : (k : RegKind) → meets Owned k ≡ true → (s : ℕ) × (object_struct k ≡ Some s)
-owned_struct (held.Own s) m = (s, refl)
-owned_struct k m = absurd (cc)
-
-pub set_comes : (d : Domain) (n : ℕ) (sight : Sight) (regs : Registers) (w : Action) (o i v : Register) (number of label : ℕ) → At d n (instr.Set o i v) number of label → setting (sight.cell (object_in regs o) (number_in regs i)) (cell_kind d (Some of) (number_in regs i)) (object_in regs o) (number_in regs i) (number_in regs v) ≡ Would w → setting (sight.cell (object_in regs o) (number_in regs i)) (cell_kind d (object_struct (kind_in (kinds_at d n) o)) (number_in regs i)) (object_in regs o) (number_in regs i) (number_in regs v) ≡ Would w
-set_comes d n sight regs w o i v number of label at comes =
+pub set_comes : (d : Domain) (n : ℕ) (sight : Sight) (regs : Registers) (w : Action) (o i v : Register) (number of label : ℕ) → At d n (instr.Set o i v) number of label → Fitting d sight (record { at = n; regs = regs }) → setting (sight.cell (object_in regs o) (number_in regs i)) (cell_kind d.tables of (number_in regs i)) (object_in regs o) (number_in regs i) (number_in regs v) ≡ Would w → setting (sight.cell (object_in regs o) (number_in regs i)) (cell_kind d.tables (struct_in sight regs o) (number_in regs i)) (object_in regs o) (number_in regs i) (number_in regs v) ≡ Would w
+set_comes d n sight regs w o i v number of label at fitting comes =
     let kinds = kinds_at d n in
+    let types = fitting.types in
     let met = and_left (reads_are_met kinds (instr.Set o i v)) true at.kept.kinds in
-    let s = owned_struct (kind_in kinds o) (and_left (meets Owned (kind_in kinds o)) _ met) in
-    let is : Some of ≡ object_struct (kind_in kinds o) = ap Some (at.names.typed s.0 s.1) ∙ sym s.1 in
-    subst (λ x. setting (sight.cell (object_in regs o) (number_in regs i)) (cell_kind d x (number_in regs i)) (object_in regs o) (number_in regs i) (number_in regs v) ≡ Would w) is comes
+    let owned = owned_object (kind_in kinds o) (and_left (meets Owned (kind_in kinds o)) _ met) in
+    let is : of ≡ types.struct_of (object_in regs o) = at.names.typed (types.struct_of (object_in regs o)) (object_is types (kind_in kinds o) (value_in regs o) owned (fitting.stand.regs.each o.number)) in
+    let seen : of ≡ struct_in sight regs o = is ∙ sym (ap (λ (t : Typing). t.struct_of (object_in regs o)) fitting.sees.types_same) in
+    subst (λ x. setting (sight.cell (object_in regs o) (number_in regs i)) (cell_kind d.tables x (number_in regs i)) (object_in regs o) (number_in regs i) (number_in regs v) ≡ Would w) seen comes
 
 row_is : (methods : List MethodRow) (o : Option ℕ) (args : List CallArg) (results : List Register) → has_counts (row_at methods o) args results ≡ true → row_at methods o ≡ slice_get methods (unwrap_or o 0)
 row_is methods None args results h = absurd (cc)
@@ -108,14 +111,18 @@ called d n c method args results e label number of place at =
     (and_left (meets Target (kind_in kinds c)) (list_all (is_met kinds) (map read_of_arg args)) met) at.kept.method
     (at.names.typed (trait_of_kind (kind_in kinds c)) refl) (at.names.named (unwrap_or (method_number d.tables (trait_of_kind (kind_in kinds c)) method) 0) refl)
 
-pub call_comes : (d : Domain) (n : ℕ) (regs : Registers) (w : Action) (c : Register) (method : List ℕ) (args : List CallArg) (results : List Register) (e : Register) (label : List ℕ) (number of place : ℕ) → At d n (instr.Call c method args results e label) number of place → unless_trap (args_fit (params_of (slice_get (methods_of d.tables of) number)) (map (given_by regs) args)) cause.Range (action.Call (target (value_in regs c)) number (map (given_by regs) args)) ≡ Would w → unless_trap (args_fit (params_of (method_called d.tables (kind_in (kinds_at d n) c) method)) (map (given_by regs) args)) cause.Range (action.Call (target (value_in regs c)) (unwrap_or (method_number d.tables (trait_of_kind (kind_in (kinds_at d n) c)) method) 0) (map (given_by regs) args)) ≡ Would w
-call_comes d n regs w c method args results e label number of place at comes =
+pub call_comes : (d : Domain) (n : ℕ) (sight : Sight) (regs : Registers) (w : Action) (c : Register) (method : List ℕ) (args : List CallArg) (results : List Register) (e : Register) (label : List ℕ) (number of place : ℕ) → At d n (instr.Call c method args results e label) number of place → Fitting d sight (record { at = n; regs = regs }) → unless_trap (args_fit (params_of (slice_get (methods_of d.tables of) number)) (map (given_by regs) args)) cause.Range (action.Call (target (value_in regs c)) number (map (given_by regs) args)) ≡ Would w → unless_trap (args_fit (params_of (method_named d.tables (trait_in sight regs c) method)) (map (given_by regs) args)) cause.Range (action.Call (target (value_in regs c)) (unwrap_or (method_number d.tables (trait_in sight regs c) method) 0) (map (given_by regs) args)) ≡ Would w
+call_comes d n sight regs w c method args results e label number of place at fitting comes =
     let kinds = kinds_at d n in
-    let m = unwrap_or (method_number d.tables (trait_of_kind (kind_in kinds c)) method) 0 in
-    subst (λ x. unless_trap (args_fit (params_of (method_called d.tables (kind_in kinds c) method)) (map (given_by regs) args)) cause.Range (action.Call (target (value_in regs c)) x (map (given_by regs) args)) ≡ Would w)
-    (at.names.named m refl)
-    (subst (λ x. unless_trap (args_fit (params_of x) (map (given_by regs) args)) cause.Range (action.Call (target (value_in regs c)) number (map (given_by regs) args)) ≡ Would w)
-    (sym (called d n c method args results e label number of place at)) comes)
+    let k = kind_in kinds c in
+    let types = fitting.types in
+    let met = and_left (reads_are_met kinds (instr.Call c method args results e label)) (operands_suit d n kinds (instr.Call c method args results e label)) at.kept.kinds in
+    let caps = and_left (meets Target k) (list_all (is_met kinds) (map read_of_arg args)) met in
+    let same : trait_of_kind k ≡ trait_in sight regs c = sym (ap (λ (t : Typing). t.trait_of (target (value_in regs c))) fitting.sees.types_same ∙ target_is types k (value_in regs c) caps (fitting.stand.regs.each c.number)) in
+    let row : slice_get (methods_of d.tables of) number ≡ method_named d.tables (trait_in sight regs c) method = sym (called d n c method args results e label number of place at) ∙ (called_is_named d.tables k method caps ∙ ap (λ t. method_named d.tables t method) same) in
+    let m : number ≡ unwrap_or (method_number d.tables (trait_in sight regs c) method) 0 = at.names.named (unwrap_or (method_number d.tables (trait_of_kind k) method) 0) refl ∙ ap (λ t. unwrap_or (method_number d.tables t method) 0) same in
+    subst (λ x. unless_trap (args_fit (params_of (method_named d.tables (trait_in sight regs c) method)) (map (given_by regs) args)) cause.Range (action.Call (target (value_in regs c)) x (map (given_by regs) args)) ≡ Would w) m
+    (subst (λ x. unless_trap (args_fit (params_of x) (map (given_by regs) args)) cause.Range (action.Call (target (value_in regs c)) number (map (given_by regs) args)) ≡ Would w) row comes)
 
 few_args : (m : Option MethodRow) (args : List CallArg) (results : List Register) → ((x : MethodRow) → m ≡ Some x → length x.params ≤ 8) → has_counts m args results ≡ true → length args ≤ 8
 few_args None args results few h = absurd (cc)

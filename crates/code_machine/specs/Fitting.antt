@@ -1,18 +1,30 @@
 -- What the calls ask of a frame.
 use Rattle.std.specs.Prelude.{◌≡◌, ◌⊎◌, ℕ, ◌≤◌, false, List, Some, None, slice_get}
-use Rattle.rl_defs.specs.declared.values.Arg.{Arg}
+use Rattle.machine_defs.specs.declared.values.Arg.{Arg}
 use Rattle.rl_defs.specs.declared.code.HeadItem.{HeadItem}
 use Rattle.rl_defs.specs.declared.code.Instr.{Instr}
 use Rattle.rl_defs.specs.declared.code.DomainLine.TheVariants as line
-use Rattle.rl_defs.specs.declared.frame.Answer.{Answer}
+use Rattle.machine_defs.specs.declared.frame.Answer.{Answer}
+use Rattle.machine_defs.specs.declared.frame.Frame.{Frame}
+use Rattle.machine_defs.specs.declared.frame.FrameBody.TheVariants as body
 use Rattle.rl_defs.specs.DomainValue.{Domain}
 use Rattle.rl_defs.specs.Domains.{is_native}
-use Rattle.rl_defs.specs.Sight.{Sight}
+use Rattle.machine_defs.specs.Sight.{Sight}
 use Rattle.rl_defs.specs.CodeKinds.{kinds_at, at_label}
-use Rattle.rl_defs.specs.CodeRules.{label_of, place_of_label}
-use Rattle.rl_defs.specs.Instructions.{Registers, Stand}
-use Rattle.rl_defs.specs.CodeFits.{KeepsRules, Typing, Fits, FitsStand, FitsWaiting, FitsSight, FitsAnswer}
-use Rattle.rl_defs.specs.CodeLaws.{StandsAt, FitsArguments}
+use Rattle.rl_defs.specs.CodeNames.{label_of, place_of_label}
+use Rattle.rl_defs.specs.Registers.{Registers, Stand}
+use Rattle.rl_defs.specs.CodeRules.{KeepsRules}
+use Rattle.rl_defs.specs.Registers.{Typing, Fits}
+use Rattle.machine_defs.specs.CodeFits.{FitsStand, FitsWaiting, FitsSight, FitsAnswer}
+use Rattle.machine_defs.specs.CodeLaws.{StandsAt, FitsArguments}
+
+-- where a frame stands, by its line and registers
+abbrev pub standing : ℕ → Registers → Stand
+standing line regs = record { at = line; regs = regs }
+
+-- the frame, where it stands elsewhere
+abbrev pub put_at : {N : Type 0} → Frame N → Stand → Frame N
+put_at f s = record f { body = body.Code s.at s.regs }
 
 -- A frame fits its domain, and so does what it sees, for some types of objects and targets.
 pub record Fitting (d : Domain) (sight : Sight) (s : Stand) : Type 0 where

@@ -1,6 +1,7 @@
 -- What one instruction came to, and the registers behind it.
 use Rattle.std.specs.Prelude.{◌≡◌, Bool, true, false}
-use Rattle.rl_defs.specs.Instructions.{Registers, Outcome, Works, Jumps, Would}
+use Rattle.rl_defs.specs.Registers.{Registers}
+use Rattle.machine_defs.specs.Instructions.{Outcome, Works, Jumps, Would}
 use Rattle.code_machine.specs.declared.went.Went.{Went}
 use Rattle.code_machine.specs.declared.went.Went.TheVariants as went
 

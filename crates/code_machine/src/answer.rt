@@ -1,56 +1,45 @@
 //! How a frame of domain code goes on from what its action is answered.
 ghost use Rattle.std.specs.Prelude.{◌≡◌};
 ghost use Rattle.rl_defs.specs.declared.code.Instr.{Instr as AnInstr};
-ghost use Rattle.rl_defs.specs.declared.frame.FrameBody.TheVariants as body;
-ghost use Rattle.rl_defs.specs.Texts.{code_number};
+ghost use Rattle.machine_defs.specs.declared.frame.FrameBody.TheVariants as body;
+ghost use Rattle.machine_defs.specs.Entries.{code_number};
 ghost use Rattle.rl_defs.specs.CodeKinds.{kinds_at, passed};
-ghost use Rattle.rl_defs.specs.Instructions.{kept, entered};
-ghost use Rattle.rl_defs.specs.CodeFits.{Typing, FitsStand, FitsWaiting, FitsAnswer, stand_of, given_up, all_given_up, put_values, answered, after_answer};
-ghost use Rattle.rl_defs.specs.CodeLaws.{StandsAt};
-ghost use Rattle.code_machine.specs.Fitting.{Awaits, IsHead};
+ghost use Rattle.rl_defs.specs.Registers.{kept};
+ghost use Rattle.machine_defs.specs.Instructions.{behind_head};
+ghost use Rattle.rl_defs.specs.Registers.{Typing};
+ghost use Rattle.machine_defs.specs.CodeFits.{FitsStand, FitsWaiting, FitsAnswer, stand_of};
+ghost use Rattle.machine_defs.specs.Instructions.{given_up, all_given_up, put_values, answered, after_answer};
+ghost use Rattle.machine_defs.specs.CodeLaws.{StandsAt};
+ghost use Rattle.code_machine.specs.Fitting.{standing, put_at, Awaits, IsHead};
 
-use rl_defs::arrays::Registers;
+use machine_defs::arrays::Registers;
+use machine_defs::frame::{Answer, Frame, FrameBody};
+use machine_defs::values::RpcCode;
 use rl_defs::checked::CheckedDomain;
 use rl_defs::code::{CallArg, DomainLine, HeadItem, Instr, Register};
-use rl_defs::frame::{Answer, Frame, FrameBody};
-use rl_defs::values::{RpcCode, Value};
+use rl_defs::values::Value;
 
-/// The frame behind an answer. What was made, taken or returned stands in its registers, and what was given up has left them; it
+/// A frame goes on from an answer. What was made, taken or returned stands in its registers, and what was given up has left them; it
 /// stands at the next line, or, where its call failed, behind the head of the call's label, with the call's code. A frame that waited
 /// for its call has given up the objects that it moved already.
-pub fn take_answer<N: Drop>(domain: &CheckedDomain, frame: Frame<N>, answer: Answer) -> Frame<N>
-    requires { Awaits domain.now (stand_of frame.body) answer }
-    ensures goes_on { (i : AnInstr) → StandsAt domain.now i (stand_of frame.body) → result ≡ record frame { body = body.Code (after_answer domain.now (stand_of frame.body) i answer).at (after_answer domain.now (stand_of frame.body) i answer).regs } }
-    ensures fits { (types : Typing) (i : AnInstr) → StandsAt domain.now i (stand_of frame.body) → FitsStand types domain.now (stand_of frame.body) → FitsAnswer types domain.now (kinds_at domain.now (stand_of frame.body).at) i answer → FitsStand types domain.now (stand_of result.body) }
-    ensures fits_again { (types : Typing) (i : AnInstr) → FitsWaiting types domain.now i (stand_of frame.body) → FitsAnswer types domain.now (kinds_at domain.now (stand_of frame.body).at) i answer → FitsStand types domain.now (stand_of result.body) }
+pub fn take_answer<N: Drop>(domain: &CheckedDomain, frame: &mut Frame<N>, answer: &Answer)
+    requires { Awaits domain.now (stand_of frame.old.body) answer.now }
+    ensures goes_on { (i : AnInstr) → StandsAt domain.now i (stand_of frame.old.body) →
+        frame.new ≡ put_at frame.old (after_answer domain.now (stand_of frame.old.body) i answer.now) }
+    ensures fits { (types : Typing) (i : AnInstr) → StandsAt domain.now i (stand_of frame.old.body) →
+        FitsStand types domain.now (stand_of frame.old.body) →
+        FitsAnswer types domain.now (kinds_at domain.now (stand_of frame.old.body).at) i answer.now →
+        FitsStand types domain.now (stand_of frame.new.body) }
+    ensures fits_again { (types : Typing) (i : AnInstr) →
+        FitsWaiting types domain.now i (stand_of frame.old.body) →
+        FitsAnswer types domain.now (kinds_at domain.now (stand_of frame.old.body).at) i answer.now →
+        FitsStand types domain.now (stand_of frame.new.body) }
 {
     // Its contract says that the domain keeps the rules.
     let _ = domain.lines();
-    let Frame {
-        call,
-        target,
-        instance,
-        method,
-        args,
-        lent,
-        body,
-    } = frame;
-    match body {
+    match &mut frame.body {
         FrameBody::Code { line, registers } => {
-            let mut held = registers;
-            let line = behind(domain, line, &mut held, &answer);
-            Frame {
-                call,
-                target,
-                instance,
-                method,
-                args,
-                lent,
-                body: FrameBody::Code {
-                    line,
-                    registers: held,
-                },
-            }
+            *line = behind(domain, *line, registers, answer);
         }
         FrameBody::Native { .. } => unreachable!(),
     }
@@ -58,8 +47,9 @@ pub fn take_answer<N: Drop>(domain: &CheckedDomain, frame: Frame<N>, answer: Ans
 
 // Where a frame stands behind an answer, and its registers there.
 fn behind(domain: &CheckedDomain, line: u32, registers: &mut Registers, answer: &Answer) -> u32
-    requires { Awaits domain.now (record { at = line; regs = registers.old }) answer.now }
-    ensures { (i : AnInstr) → StandsAt domain.now i (record { at = line; regs = registers.old }) → after_answer domain.now (record { at = line; regs = registers.old }) i answer.now ≡ record { at = result; regs = registers.new } }
+    requires { Awaits domain.now (standing line registers.old) answer.now }
+    ensures { (i : AnInstr) → StandsAt domain.now i (standing line registers.old) →
+        after_answer domain.now (standing line registers.old) i answer.now ≡ standing result registers.new }
 {
     let place = line as usize;
     match &domain.lines()[place].form {
@@ -77,7 +67,7 @@ fn behind(domain: &CheckedDomain, line: u32, registers: &mut Registers, answer: 
 // Goes behind the head at a place.
 fn enter(domain: &CheckedDomain, place: u32, registers: &mut Registers) -> u32
     requires { IsHead domain.now place }
-    ensures { entered domain.now place registers.old ≡ record { at = result; regs = registers.new } }
+    ensures { behind_head domain.now place registers.old ≡ standing result registers.new }
 {
     match &domain.lines()[place as usize].form {
         DomainLine::Head(_, items) => {

@@ -4,7 +4,7 @@
 //! `take_answer` puts what came of it into the frame. No step looks a name up, and none takes memory.
 #![tactic(auto)]
 
-mod act;
+pub mod act;
 pub mod answer;
 pub mod entry;
 mod registers;

@@ -1,11 +1,13 @@
 //! What registers hold.
 ghost use Rattle.std.specs.Prelude.{◌≡◌, ◌≤◌, length, map};
-ghost use Rattle.rl_defs.specs.Instructions.{number_in, object_in, target, value_in, passed_value, given_by, result_in};
+ghost use Rattle.machine_defs.specs.Instructions.{number_in, object_in, target, passed_value, given_by, result_in};
+ghost use Rattle.rl_defs.specs.Registers.{value_in};
 ghost use Rattle.rl_defs.specs.LineRows.{emptied};
 
-use rl_defs::arrays::{Args, Registers, Results};
+use machine_defs::arrays::{Args, Registers, Results};
+use machine_defs::values::Arg;
 use rl_defs::code::{CallArg, Register};
-use rl_defs::values::{Arg, Value};
+use rl_defs::values::Value;
 
 /// The number that a register holds, and 0 where it holds none.
 pub fn number_in(registers: &Registers, register: Register) -> u64

@@ -1,101 +1,94 @@
 //! What a frame of domain code would do next.
 ghost use Rattle.std.specs.Prelude.{◌≡◌, ◌<◌, length};
-ghost use Rattle.rl_defs.specs.Instructions.{Before, settle, behind_heads, jumped};
-ghost use Rattle.rl_defs.specs.CodeFits.{Typing, FitsStand, FitsSight, stand_of};
-ghost use Rattle.code_machine.specs.Fitting.{Fitting, FitsLine, GoesToLabel};
+ghost use Rattle.machine_defs.specs.declared.frame.FrameBody.TheVariants as body;
+ghost use Rattle.machine_defs.specs.Instructions.{Before, settle, jumped};
+ghost use Rattle.rl_defs.specs.Registers.{behind_heads};
+ghost use Rattle.rl_defs.specs.Registers.{Typing};
+ghost use Rattle.machine_defs.specs.CodeFits.{FitsStand, FitsSight, stand_of};
+ghost use Rattle.code_machine.specs.Act.{action_of};
+ghost use Rattle.code_machine.specs.Fitting.{standing, put_at, Fitting, FitsLine, GoesToLabel};
 
-use crate::act::action_at;
+use crate::act::{Act, act_at};
 use crate::registers::empty;
 use crate::went::Went;
 use crate::work::work;
-use rl_defs::arrays::Registers;
+use machine_defs::arrays::Registers;
+use machine_defs::frame::{Frame, FrameBody, View};
+use machine_defs::values::Cause;
 use rl_defs::checked::CheckedDomain;
-use rl_defs::frame::{Action, Frame, FrameBody, View};
-use rl_defs::values::Cause;
 
-/// What a frame would do next, and where it stands before it.
-#[derive(Debug, Drop)]
-pub struct Wanted {
-    pub action: Action,
-    /// The place in the domain's text of the action's line.
-    pub line: u32,
-    pub registers: Registers,
-    /// The fuel that is left. The action itself isn't paid yet.
-    pub fuel: u32,
-}
-
-/// The first action or trap of a frame, from the line where it stands, with this fuel and so many live objects. Each instruction before
-/// it costs 1. At fuel 0 it is the trap `fuel`.
+/// The first action or trap of a frame, from the line where it stands, with this fuel and so many live objects. The frame and the fuel
+/// go on to it: each instruction before it costs 1, and the action itself isn't paid yet. At fuel 0 it is the trap `fuel`.
 pub fn settle<V: View, N: Drop>(
     domain: &CheckedDomain,
-    frame: &Frame<N>,
+    frame: &mut Frame<N>,
+    fuel: &mut u32,
     view: &V,
-    fuel: u32,
     live: u32,
-) -> Wanted
-    requires { Fitting domain.now (V.sight view.now) (stand_of frame.now.body) }
-    ensures wanted { settle domain.now (V.sight view.now) live fuel (stand_of frame.now.body) ≡ Before result.action result.fuel (record { at = result.line; regs = result.registers }) }
-    ensures fits { (types : Typing) → FitsStand types domain.now (stand_of frame.now.body) → FitsSight types domain.now (V.sight view.now) → FitsStand types domain.now (record { at = result.line; regs = result.registers }) }
+) -> Act
+    requires { Fitting domain.now (V.sight view.now) (stand_of frame.old.body) }
+    ensures wanted { settle domain.now (V.sight view.now) live fuel.old (stand_of frame.old.body)
+        ≡ Before (action_of result) fuel.new (stand_of frame.new.body) }
+    ensures same { frame.new ≡ put_at frame.old (stand_of frame.new.body) }
+    ensures fits { (types : Typing) → FitsStand types domain.now (stand_of frame.old.body) →
+        FitsSight types domain.now (V.sight view.now) → FitsStand types domain.now (stand_of frame.new.body) }
 {
-    // Its contract says that the domain keeps the rules.
-    let _ = domain.lines();
-    match &frame.body {
+    match &mut frame.body {
         FrameBody::Code { line, registers } => {
-            settle_from(domain, *line, registers.copied(), view, fuel, live)
+            settle_in(domain, line, registers, fuel, view, live)
         }
         FrameBody::Native { .. } => unreachable!(),
     }
 }
 
-fn settle_from<V: View>(
+/// As `settle`, for a line and registers that need not stand in a frame: for register work that is done beside the machine, or goes on
+/// from there.
+pub fn settle_in<V: View>(
     domain: &CheckedDomain,
-    line: u32,
-    registers: Registers,
+    line: &mut u32,
+    registers: &mut Registers,
+    fuel: &mut u32,
     view: &V,
-    fuel: u32,
     live: u32,
-) -> Wanted
-    requires { Fitting domain.now (V.sight view.now) (record { at = line; regs = registers }) }
-    ensures { settle domain.now (V.sight view.now) live fuel (record { at = line; regs = registers }) ≡ Before result.action result.fuel (record { at = result.line; regs = result.registers }) }
+) -> Act
+    requires { Fitting domain.now (V.sight view.now) (standing line.old registers.old) }
+    ensures wanted { settle domain.now (V.sight view.now) live fuel.old (standing line.old registers.old)
+        ≡ Before (action_of result) fuel.new (standing line.new registers.new) }
+    ensures fits { (types : Typing) → FitsStand types domain.now (standing line.old registers.old) →
+        FitsSight types domain.now (V.sight view.now) →
+        FitsStand types domain.now (standing line.new registers.new) }
 {
     // Its contract says that the domain keeps the rules.
     let _ = domain.lines();
-    let mut held = registers;
-    let mut left = fuel;
-    let mut place = come(domain, line, &mut held);
+    let mut left = *fuel;
+    let mut place = come(domain, *line, registers);
     'lines: while left > 0 {
-        match work(domain, place as usize, view, &mut held) {
+        match work(domain, place as usize, view, registers) {
             Went::Next => {
-                place = come(domain, place + 1, &mut held);
+                place = come(domain, place + 1, registers);
                 left -= 1;
             }
             Went::Jump => {
-                place = come_to_label(domain, place, &mut held);
+                place = come_to_label(domain, place, registers);
                 left -= 1;
             }
             Went::Stop => {
-                return Wanted {
-                    action: action_at(domain, place as usize, view, live, &held),
-                    line: place,
-                    registers: held,
-                    fuel: left,
-                };
+                *line = place;
+                *fuel = left;
+                return act_at(domain, place as usize, view, live, registers);
             }
         }
     }
-    Wanted {
-        action: Action::Trap(Cause::Fuel),
-        line: place,
-        registers: held,
-        fuel: 0,
-    }
+    *line = place;
+    *fuel = 0;
+    Act::Trap(Cause::Fuel)
 }
 
 // Comes to a line, and through the heads that stand there.
 fn come(domain: &CheckedDomain, place: u32, registers: &mut Registers) -> u32
     requires within { place < length domain.now.lines }
     requires fits { FitsLine domain.now place registers.old }
-    ensures { behind_heads domain.now (record { at = place; regs = registers.old }) ≡ record { at = result; regs = registers.new } }
+    ensures { behind_heads domain.now (standing place registers.old) ≡ standing result registers.new }
 {
     let (to, emptied) = domain.here(place as usize);
     empty(registers, emptied);
@@ -106,7 +99,7 @@ fn come(domain: &CheckedDomain, place: u32, registers: &mut Registers) -> u32
 fn come_to_label(domain: &CheckedDomain, place: u32, registers: &mut Registers) -> u32
     requires within { place < length domain.now.lines }
     requires goes { GoesToLabel domain.now place registers.old }
-    ensures { behind_heads domain.now (jumped domain.now place registers.old) ≡ record { at = result; regs = registers.new } }
+    ensures { behind_heads domain.now (jumped domain.now place registers.old) ≡ standing result registers.new }
 {
     let (to, emptied) = domain.jump(place as usize);
     empty(registers, emptied);

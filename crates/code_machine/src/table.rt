@@ -1,9 +1,8 @@
 //! The rows of the tables that instructions name.
-ghost use Rattle.std.specs.Prelude.{◌≡◌, slice_get, Some};
+ghost use Rattle.std.specs.Prelude.{◌≡◌, slice_get};
 ghost use Rattle.std.specs.Option.{option_copied};
 ghost use Rattle.rl_defs.specs.CodeNames.{methods_of, params_of, results_of, cells_of};
-ghost use Rattle.rl_defs.specs.Instructions.{cell_kind};
-ghost use Rattle.rl_defs.specs.DomainValue.{Domain as ADomain};
+ghost use Rattle.machine_defs.specs.Instructions.{cell_kind};
 
 use rl_defs::tables::{Kind, MethodRow, Tables, Width};
 
@@ -36,7 +35,7 @@ pub fn results(tables: &Tables, of: u32, number: u32) -> &[Kind]
 
 /// The kind of a struct's cell.
 pub fn cell_kind(tables: &Tables, of: u32, at: u64) -> Kind
-    ensures { (d : ADomain) → d.tables ≡ tables.now → result ≡ cell_kind d (Some of) at }
+    ensures { result ≡ cell_kind tables.now of at }
 {
     match cell(tables, of, at) {
         Some(kind) => kind,

@@ -1,9 +1,10 @@
 //! What one instruction comes to.
 ghost use Rattle.std.specs.Prelude.{◌≡◌};
-ghost use Rattle.rl_defs.specs.Instructions.{Works, with_value};
+ghost use Rattle.machine_defs.specs.Instructions.{Works};
+ghost use Rattle.rl_defs.specs.Registers.{with_value};
 ghost use Rattle.code_machine.specs.Went.{Comes};
 
-use rl_defs::arrays::Registers;
+use machine_defs::arrays::Registers;
 use rl_defs::code::Register;
 use rl_defs::values::Value;
 

@@ -1,13 +1,14 @@
 //! Whether numbers fit the cells, parameters and results that they are meant for.
 ghost use Rattle.std.specs.Prelude.{◌≡◌};
-ghost use Rattle.rl_defs.specs.Instructions.{fits, arg_fits, args_fit, value_fits, values_fit};
+ghost use Rattle.machine_defs.specs.Instructions.{number_fits, arg_fits, args_fit, value_fits, values_fit};
 
+use machine_defs::values::Arg;
 use rl_defs::tables::{Kind, Width};
-use rl_defs::values::{Arg, Value};
+use rl_defs::values::Value;
 
 /// Whether a number doesn't exceed the width of its cell, parameter or result.
 pub fn fits(kind: Kind, number: u64) -> bool
-    ensures { result ≡ fits kind number }
+    ensures { result ≡ number_fits kind number }
 {
     match kind {
         Kind::Num(Width::Bool) => number < 2,

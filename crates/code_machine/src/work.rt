@@ -1,18 +1,18 @@
 //! One instruction that works on registers, by the table of the instructions. Those that act are in `act`.
 ghost use Rattle.std.specs.Prelude.{◌≡◌, ℕ, ◌==◌, is_some, if◌then◌else◌};
-ghost use Rattle.rl_defs.specs.declared.values.Cause.TheVariants as cause;
+ghost use Rattle.machine_defs.specs.declared.values.Cause.TheVariants as cause;
 ghost use Rattle.rl_defs.specs.declared.values.Value.TheVariants as value;
-ghost use Rattle.rl_defs.specs.Instructions.{Works, Jumps, value_in, with_value, with_number, number_in, object_in, number_or_trap, calculate, bit, meaning, work};
-ghost use Rattle.rl_defs.specs.CodeKinds.{kinds_at};
+ghost use Rattle.machine_defs.specs.Instructions.{Works, Jumps, with_number, number_in, object_in, number_or_trap, calculate, bit, meaning, work};
+ghost use Rattle.rl_defs.specs.Registers.{value_in, with_value};
 ghost use Rattle.code_machine.specs.Went.{Comes};
-ghost use Rattle.code_machine.specs.Fitting.{Fitting, AtInstr, IsLine};
+ghost use Rattle.code_machine.specs.Fitting.{standing, Fitting, AtInstr, IsLine};
 
 use crate::registers::{number_in, object_in};
 use crate::went::{Went, put};
-use rl_defs::arrays::Registers;
+use machine_defs::arrays::Registers;
+use machine_defs::frame::View;
 use rl_defs::checked::CheckedDomain;
 use rl_defs::code::{DomainLine, Instr, MathOp, Register};
-use rl_defs::frame::View;
 use rl_defs::values::Value;
 
 // The operation on two numbers. None where it is a division by 0.
@@ -34,7 +34,9 @@ fn calculate(op: MathOp, x: u64, y: u64) -> Option<u64>
 }
 
 fn math(registers: &mut Registers, op: MathOp, to: Register, x: Register, y: Register) -> Went
-    ensures { Comes (number_or_trap registers.old to cause.Divide (calculate op (number_in registers.old x) (number_in registers.old y))) registers.old registers.new result }
+    ensures { Comes (number_or_trap registers.old to cause.Divide
+        (calculate op (number_in registers.old x) (number_in registers.old y))) registers.old registers.new
+        result }
 {
     match calculate(op, number_in(registers, x), number_in(registers, y)) {
         Some(number) => put_number(registers, to, number),
@@ -43,14 +45,16 @@ fn math(registers: &mut Registers, op: MathOp, to: Register, x: Register, y: Reg
 }
 
 fn copy(registers: &mut Registers, to: Register, from: Register) -> Went
-    ensures { Comes (Works (with_value registers.old to (value_in registers.old from))) registers.old registers.new result }
+    ensures { Comes (Works (with_value registers.old to (value_in registers.old from))) registers.old
+        registers.new result }
 {
     let value = registers.get(from);
     put(registers, to, value)
 }
 
 fn jump_if_zero(registers: &Registers, register: Register) -> Went
-    ensures { Comes (if number_in registers.now register == 0 then Jumps registers.now else Works registers.now) registers.now registers.now result }
+    ensures { Comes (if number_in registers.now register == 0 then Jumps registers.now else Works registers.now)
+        registers.now registers.now result }
 {
     if number_in(registers, register) == 0 {
         Went::Jump
@@ -60,7 +64,8 @@ fn jump_if_zero(registers: &Registers, register: Register) -> Went
 }
 
 fn move_over(registers: &mut Registers, to: Register, from: Register) -> Went
-    ensures { Comes (Works (with_value (with_value registers.old from None) to (value_in registers.old from))) registers.old registers.new result }
+    ensures { Comes (Works (with_value (with_value registers.old from None) to (value_in registers.old from)))
+        registers.old registers.new result }
 {
     let value = registers.get(from);
     registers.set(from, None);
@@ -74,7 +79,9 @@ fn get<V: View>(
     object: Register,
     at: Register,
 ) -> Went
-    ensures { Comes (number_or_trap registers.old to cause.Bounds ((V.sight view.now).cell (object_in registers.old object) (number_in registers.old at))) registers.old registers.new result }
+    ensures { Comes (number_or_trap registers.old to cause.Bounds
+        ((V.sight view.now).cell (object_in registers.old object) (number_in registers.old at))) registers.old
+        registers.new result }
 {
     match view.cell(object_in(registers, object), number_in(registers, at)) {
         Some(number) => put_number(registers, to, number),
@@ -83,7 +90,8 @@ fn get<V: View>(
 }
 
 fn word<V: View>(view: &V, registers: &mut Registers, to: Register, at: Register) -> Went
-    ensures { Comes (number_or_trap registers.old to cause.Bounds ((V.sight view.now).word (number_in registers.old at))) registers.old registers.new result }
+    ensures { Comes (number_or_trap registers.old to cause.Bounds
+        ((V.sight view.now).word (number_in registers.old at))) registers.old registers.new result }
 {
     match view.word(number_in(registers, at)) {
         Some(number) => put_number(registers, to, number),
@@ -99,14 +107,16 @@ fn put_number(registers: &mut Registers, to: Register, number: u64) -> Went
 
 // Whether a slot is full.
 fn has<V: View>(view: &V, registers: &mut Registers, to: Register, slot: u32) -> Went
-    ensures { Comes (Works (with_number registers.old to (bit (is_some ((V.sight view.now).slot slot))))) registers.old registers.new result }
+    ensures { Comes (Works (with_number registers.old to (bit (is_some ((V.sight view.now).slot slot)))))
+        registers.old registers.new result }
 {
     let full = view.slot(slot).is_some();
     put_number(registers, to, u64::from(full))
 }
 
 fn cap<V: View>(view: &V, registers: &mut Registers, to: Register, import: u32) -> Went
-    ensures { Comes (Works (with_value registers.old to (Some (value.Cap ((V.sight view.now).bound import))))) registers.old registers.new result }
+    ensures { Comes (Works (with_value registers.old to (Some (value.Cap ((V.sight view.now).bound import)))))
+        registers.old registers.new result }
 {
     put(registers, to, Some(Value::Cap(view.bound(import))))
 }
@@ -118,9 +128,10 @@ pub fn work<V: View>(
     view: &V,
     registers: &mut Registers,
 ) -> Went
-    requires fits { Fitting domain.now (V.sight view.now) (record { at = place; regs = registers.old }) }
-    requires at { AtInstr domain.now (record { at = place; regs = registers.old }) }
-    ensures { (live : ℕ) → Comes (work domain.now (V.sight view.now) live (record { at = place; regs = registers.old })) registers.old registers.new result }
+    requires fits { Fitting domain.now (V.sight view.now) (standing place registers.old) }
+    requires at { AtInstr domain.now (standing place registers.old) }
+    ensures { (live : ℕ) → Comes (work domain.now (V.sight view.now) live (standing place registers.old))
+        registers.old registers.new result }
 {
     match &domain.lines()[place].form {
         DomainLine::Code(instr) => meaning(domain, place, view, registers, instr),
@@ -136,7 +147,8 @@ fn meaning<V: View>(
     instr: &Instr,
 ) -> Went
     requires here { IsLine domain.now place instr.now }
-    ensures { (live : ℕ) → Comes (meaning domain.now place (kinds_at domain.now place) (V.sight view.now) live registers.old instr.now) registers.old registers.new result }
+    ensures { (live : ℕ) → Comes (meaning domain.now place (V.sight view.now) live registers.old instr.now)
+        registers.old registers.new result }
 {
     match instr {
         Instr::Const(a, number) => put_number(registers, *a, *number),

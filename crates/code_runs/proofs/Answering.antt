@@ -4,7 +4,7 @@ use Rattle.std.proofs.lemmas.Bool.{eqb-true}
 use Rattle.std.proofs.lemmas.List.{length-map}
 use Rattle.rl_defs.specs.declared.values.Value.{Value}
 use Rattle.rl_defs.specs.declared.values.Value.TheVariants as value
-use Rattle.rl_defs.specs.declared.values.Arg.{Arg}
+use Rattle.machine_defs.specs.declared.values.Arg.{Arg}
 use Rattle.rl_defs.specs.declared.bundle.Numbered.{Numbered}
 use Rattle.rl_defs.specs.declared.code.DomainLine.{DomainLine}
 use Rattle.rl_defs.specs.declared.code.CallArg.{CallArg}
@@ -14,27 +14,27 @@ use Rattle.rl_defs.specs.declared.code.RegKind.TheVariants as held
 use Rattle.rl_defs.specs.declared.code.Instr.{Instr}
 use Rattle.rl_defs.specs.declared.code.Instr.TheVariants as instr
 use Rattle.rl_defs.specs.declared.code.DomainLine.TheVariants as line
-use Rattle.rl_defs.specs.declared.frame.Answer.{Answer}
-use Rattle.rl_defs.specs.declared.frame.Answer.TheVariants as answer
+use Rattle.machine_defs.specs.declared.frame.Answer.{Answer}
+use Rattle.machine_defs.specs.declared.frame.Answer.TheVariants as answer
 use Rattle.rl_defs.specs.declared.tables.Kind.{Kind}
 use Rattle.rl_defs.specs.declared.tables.Tables.{Tables}
 use Rattle.rl_defs.specs.DomainValue.{Domain}
 use Rattle.rl_defs.specs.Domains.{Lines}
-use Rattle.rl_defs.specs.Sight.{Sight}
+use Rattle.machine_defs.specs.Sight.{Sight}
 use Rattle.rl_defs.specs.CodeNames.{Declared, slots, struct_number, type_at, place_in, methods_of, results_of}
 use Rattle.rl_defs.specs.CodeKinds.{Kinds, kinds_at, kind_in, Owned, hung_at}
 use Rattle.rl_defs.specs.CodeRules.{meets, reads_are_met}
-use Rattle.rl_defs.specs.Crossing.{value_of}
-use Rattle.rl_defs.specs.Instructions.{Stand, Registers, value_in, object, object_in, slot_number}
-use Rattle.rl_defs.specs.CodeFits.{Typing, FitsStand, FitsSight, FitsAnswer, fits_kind, are_values}
-use Rattle.rl_defs.proofs.CodeEntries.{as_many}
+use Rattle.machine_defs.specs.Arguments.{value_of}
+use Rattle.rl_defs.specs.Registers.{Stand, Registers, value_in}
+use Rattle.machine_defs.specs.Instructions.{object, object_in}
+use Rattle.rl_defs.specs.CodeNames.{slot_number}
+use Rattle.rl_defs.specs.Registers.{Typing, fits_kind}
+use Rattle.machine_defs.specs.CodeFits.{FitsStand, FitsSight, FitsAnswer, are_values}
+use Rattle.machine_defs.proofs.CodeEntries.{as_many}
 use Rattle.code_machine.proofs.Naming.{At, called}
 use Rattle.code_runs.specs.Suits.{is_held}
 use Rattle.code_runs.specs.Answered.{suits_instr}
-
-and_left : (a b : Bool) → (a && b) ≡ true → a ≡ true
-and_left true b e = refl
-and_left false b e = absurd cc
+use Rattle.rl_defs.proofs.Lists.{and_left}
 
 not_true : (b : Bool) → (b ≡ true → ⊥) → false ≡ b
 not_true true h = absurd (h refl)

@@ -5,33 +5,23 @@ use Rattle.std.specs.Cmp.Lexicographic.{pointwise}
 use Rattle.std.proofs.lemmas.Slice.Eq.{slice_eq-Decides}
 use Rattle.std.proofs.lemmas.Bool.Decides.{Decides-eqb}
 use Rattle.std.proofs.lemmas.List.{length-map}
-use Rattle.rl_defs.specs.declared.values.Arg.{Arg}
+use Rattle.machine_defs.specs.declared.values.Arg.{Arg}
 use Rattle.rl_defs.specs.declared.tables.MethodRow.{MethodRow}
 use Rattle.rl_defs.specs.declared.tables.TraitRow.{TraitRow}
 use Rattle.rl_defs.specs.declared.tables.Tables.{Tables}
 use Rattle.rl_defs.specs.DomainValue.{Domain}
 use Rattle.rl_defs.specs.Interfaces.{place_of}
 use Rattle.rl_defs.specs.CodeNames.{rows_of, methods_of, method_number, method_named, row_at, domain_trait}
-use Rattle.rl_defs.specs.CodeFits.{Typing, AreTablesSmall, are_values}
-use Rattle.rl_defs.specs.CodeLaws.{FitsArguments}
-use Rattle.rl_defs.specs.Crossing.{value_of}
-use Rattle.rl_defs.proofs.CodeSafe.{place_below}
+use Rattle.rl_defs.specs.Registers.{Typing}
+use Rattle.rl_defs.specs.TableSizes.{AreTablesSmall}
+use Rattle.machine_defs.specs.CodeFits.{are_values}
+use Rattle.machine_defs.specs.CodeLaws.{FitsArguments}
+use Rattle.machine_defs.specs.Arguments.{value_of}
+use Rattle.machine_defs.proofs.CodeSafe.{place_below}
 use Rattle.rl_defs.proofs.TableSizes.{all_at}
-use Rattle.rl_defs.specs.CodeFits.{IsTraitSmall}
+use Rattle.rl_defs.specs.TableSizes.{IsTraitSmall}
 use Rattle.code_runs.specs.Entered.{are_given, method_for}
-
--- names of equal bytes are equal
-same_name : (left right : List ℕ) → pointwise nat_eq left right ≡ true → left ≡ right
-same_name left right is = (slice_eq-Decides Decides-eqb left right true (sym is)).0 refl
-
--- the name stands at its place
-place_there : (q : List ℕ) (names : List (List ℕ)) (k : ℕ) → place_of q names ≡ Some k → slice_get names k ≡ Some q
-place_there q [] k e = absurd cc
-place_there q (x ∷ xs) k e = here (pointwise nat_eq x q) refl (place_of q xs) e (λ j h. place_there q xs j h) where
-  here : (b : Bool) → pointwise nat_eq x q ≡ b → (o : Option ℕ) → cond b (Some 0) (option_map (λ (i : ℕ). suc i) o) ≡ Some k → ((j : ℕ) → o ≡ Some j → slice_get xs j ≡ Some q) → slice_get (x ∷ xs) k ≡ Some q
-  here true is o h more = let at : 0 ≡ k = cc in subst (λ (n : ℕ). slice_get (x ∷ xs) n ≡ Some q) at (ap (λ (y : List ℕ). Some y) (same_name x q is))
-  here false is None h more = absurd cc
-  here false is (Some j) h more = let at : suc j ≡ k = cc in subst (λ (n : ℕ). slice_get (x ∷ xs) n ≡ Some q) at (more j refl)
+use Rattle.rl_defs.proofs.NamePlaces.{same_name, place_there}
 
 get_map : (rows : List MethodRow) (k : ℕ) (row : MethodRow) → slice_get rows k ≡ Some row → slice_get (map (λ m. m.name) rows) k ≡ Some row.name
 get_map [] k row e = absurd cc

@@ -3,6 +3,7 @@ use Rattle.std.proofs.Common.{◌≡◌, refl, sym, ◌∙◌, ap, ℕ, zero, su
 use Rattle.std.proofs.lemmas.Bool.{ne_eqb}
 use lib.Dec.{eqb-suc-suc}
 use Rattle.code_runs.specs.Suits.{all_suit}
+use Rattle.rl_defs.proofs.Lists.{and_left, and_right}
 
 and_false : (a b : Bool) → false ≡ b → false ≡ (a && b)
 and_false true b e = e
@@ -59,14 +60,6 @@ pairs_on p xs ys n x y whole lt same rest good =
 pub pairs_end : {A B : Type 0} (p : A → B → Bool) (xs : List A) (ys : List B) (n : ℕ) (whole : Bool) → length xs ≤ n → length xs ≡ length ys → all_suit p (drop n xs) (drop n ys) ≡ whole → true ≡ whole
 pairs_end p xs ys n whole le same rest =
     sym (ap (λ zs. all_suit p zs []) (closed xs n le)) ∙ (sym (ap (all_suit p (drop n xs)) (closed ys n (omega arith))) ∙ rest)
-
-and_left : (a b : Bool) → (a && b) ≡ true → a ≡ true
-and_left true b e = refl
-and_left false b e = absurd cc
-
-and_right : (a b : Bool) → (a && b) ≡ true → b ≡ true
-and_right true b e = e
-and_right false b e = absurd cc
 
 -- what stands beside an item
 pub record Beside {A B : Type 0} (p : A → B → Bool) (ys : List B) (k : ℕ) (x : A) : Type 0 where

@@ -13,8 +13,10 @@ use Rattle.rl_defs.specs.Interfaces.{place_of}
 use Rattle.rl_defs.specs.DomainValue.{Domain}
 use Rattle.rl_defs.specs.CodeNames.{Declared, flat_of, cells_of, slots, imports, type_of, type_at, struct_number, trait_number}
 use Rattle.rl_defs.specs.CodeKinds.{hung_in, hung_at}
-use Rattle.rl_defs.specs.CodeFits.{Typing, AreTablesSmall, FitsSight, is_number_cell}
-use Rattle.rl_defs.proofs.CodeSafe.{place_below}
+use Rattle.rl_defs.specs.Registers.{Typing}
+use Rattle.rl_defs.specs.TableSizes.{AreTablesSmall}
+use Rattle.machine_defs.specs.CodeFits.{FitsSight, is_number_cell}
+use Rattle.machine_defs.proofs.CodeSafe.{place_below}
 use Rattle.code_runs.specs.declared.view.Cell.{Cell}
 use Rattle.code_runs.specs.declared.view.Cell.TheVariants as cell
 use Rattle.code_runs.specs.declared.view.SeenObject.{SeenObject}
@@ -22,14 +24,7 @@ use Rattle.code_runs.specs.declared.view.MemoryView.{MemoryView}
 use Rattle.code_runs.specs.Seen.{cells_seen, number_of, hung_of, held_by, sight_of, struct_seen, types_of}
 use Rattle.code_runs.specs.Suits.{cell_suits, cells_suit, objects_suit, slot_suits_as, slots_suit, bind_suits_as, binds_suit, suits}
 use Rattle.code_runs.proofs.Pairing.{beside, nothing_beside}
-
-and_left : (a b : Bool) → (a && b) ≡ true → a ≡ true
-and_left true b e = refl
-and_left false b e = absurd cc
-
-and_right : (a b : Bool) → (a && b) ≡ true → b ≡ true
-and_right true b e = e
-and_right false b e = absurd cc
+use Rattle.rl_defs.proofs.Lists.{and_left, and_right}
 
 -- each object has the cells of its struct
 object_suits : (types : Typing) (tables : Tables) (os : List SeenObject) (o : ℕ) (x : SeenObject) → objects_suit types tables os ≡ true → slice_get os o ≡ Some x → cells_suit types x.cells (cells_of tables x.of) ≡ true
@@ -105,6 +100,7 @@ fits_sight v d small all =
     let there = and_right words objects before in
     let few : length v.words ≤ 4096 = le_true (length v.words) 4096 (and_left words objects before) in
     record {
+      types_same = refl;
       cells = λ o at. cells_here types d.tables v.objects o at (slice_get v.objects o) small there refl;
       words = λ at le. slice_get_past v.words at (omega arith);
       slots = λ k o h. slot_holds types d.tables v.slots (slots d.lines) k o (slice_get v.slots k) refl (and_right (words && objects) slotted front) h;

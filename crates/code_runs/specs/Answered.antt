@@ -5,14 +5,17 @@ use Rattle.rl_defs.specs.declared.code.Instr.{Instr}
 use Rattle.rl_defs.specs.declared.code.Instr.TheVariants as instr
 use Rattle.rl_defs.specs.declared.code.DomainLine.{DomainLine}
 use Rattle.rl_defs.specs.declared.code.DomainLine.TheVariants as line
-use Rattle.rl_defs.specs.declared.frame.Answer.{Answer}
-use Rattle.rl_defs.specs.declared.frame.Answer.TheVariants as answer
+use Rattle.machine_defs.specs.declared.frame.Answer.{Answer}
+use Rattle.machine_defs.specs.declared.frame.Answer.TheVariants as answer
 use Rattle.rl_defs.specs.DomainValue.{Domain}
-use Rattle.rl_defs.specs.Sight.{Sight}
+use Rattle.machine_defs.specs.Sight.{Sight}
 use Rattle.rl_defs.specs.CodeNames.{struct_number, results_of}
 use Rattle.rl_defs.specs.CodeKinds.{kinds_at, kind_in, method_called}
-use Rattle.rl_defs.specs.CodeFits.{Typing, are_values}
-use Rattle.rl_defs.specs.Instructions.{Stand, object_in, slot_number}
+use Rattle.rl_defs.specs.Registers.{Typing}
+use Rattle.machine_defs.specs.CodeFits.{are_values}
+use Rattle.rl_defs.specs.Registers.{Stand}
+use Rattle.machine_defs.specs.Instructions.{object_in}
+use Rattle.rl_defs.specs.CodeNames.{slot_number}
 use Rattle.code_runs.specs.Suits.{is_held}
 
 -- An answer suits an instruction: what is made is of the struct; what is taken stands in the slot, or hangs in the cell; what comes back is

@@ -1,12 +1,13 @@
 -- How a call of a domain's method begins.
 use Rattle.std.specs.Prelude.{ℕ, not, ◌&&◌, Bool, List, map, Option, None, if◌then◌else◌, is_some}
-use Rattle.rl_defs.specs.declared.values.Arg.{Arg}
+use Rattle.machine_defs.specs.declared.values.Arg.{Arg}
 use Rattle.rl_defs.specs.declared.tables.MethodRow.{MethodRow}
-use Rattle.rl_defs.specs.Crossing.{value_of}
+use Rattle.machine_defs.specs.Arguments.{value_of}
 use Rattle.rl_defs.specs.DomainValue.{Domain}
 use Rattle.rl_defs.specs.Domains.{is_native}
 use Rattle.rl_defs.specs.CodeNames.{params_of, method_named, method_number, domain_trait}
-use Rattle.rl_defs.specs.CodeFits.{Typing, are_values}
+use Rattle.rl_defs.specs.Registers.{Typing}
+use Rattle.machine_defs.specs.CodeFits.{are_values}
 
 -- arguments are of the parameters of a method
 abbrev pub are_given : Typing → Option MethodRow → List Arg → Bool

@@ -3,11 +3,11 @@ use Rattle.std.specs.Prelude.{ℕ, ◌==◌, ◌&&◌, nat_le, Bool, true, false
 use Rattle.rl_defs.specs.declared.tables.Kind.{Kind}
 use Rattle.rl_defs.specs.declared.tables.Kind.TheVariants as kind
 use Rattle.rl_defs.specs.declared.tables.Tables.{Tables}
-use Rattle.rl_defs.specs.declared.frame.Action.{Action}
-use Rattle.rl_defs.specs.declared.frame.Action.TheVariants as action
+use Rattle.code_machine.specs.declared.act.Act.{Act}
+use Rattle.code_machine.specs.declared.act.Act.TheVariants as act
 use Rattle.rl_defs.specs.DomainValue.{Domain}
 use Rattle.rl_defs.specs.CodeNames.{Declared, slots, imports, struct_number, trait_number, cells_of}
-use Rattle.rl_defs.specs.CodeFits.{Typing}
+use Rattle.rl_defs.specs.Registers.{Typing}
 use Rattle.code_runs.specs.declared.view.Cell.{Cell}
 use Rattle.code_runs.specs.declared.view.Cell.TheVariants as cell
 use Rattle.code_runs.specs.declared.view.SeenObject.{SeenObject}
@@ -66,8 +66,8 @@ abbrev pub is_held : Option ℕ → ℕ → Bool
 is_held None o = false
 is_held (Some v) o = v == o
 
--- an action ends its frame, so that nothing is answered
-abbrev pub ends : Action → Bool
-ends (action.Trap c) = true
-ends (action.Ret values) = true
+-- an act ends its frame, so that nothing is answered
+abbrev pub ends : Act → Bool
+ends (act.Trap c) = true
+ends (act.Ret values) = true
 ends _ = false

@@ -4,13 +4,13 @@ use Rattle.std.specs.List.{flat_map}
 use Rattle.std.specs.Fmt.{decimal}
 use Rattle.rl_defs.specs.declared.values.Value.{Value}
 use Rattle.rl_defs.specs.declared.values.Value.TheVariants as value
-use Rattle.rl_defs.specs.declared.values.Arg.{Arg}
-use Rattle.rl_defs.specs.declared.values.Arg.TheVariants as arg
-use Rattle.rl_defs.specs.declared.frame.Action.{Action}
-use Rattle.rl_defs.specs.declared.frame.Action.TheVariants as action
-use Rattle.rl_defs.specs.Texts.{spaced, object_text, numbers_text, cause_text}
-use Rattle.rl_defs.specs.Instructions.{Registers}
-use Rattle.code_machine.specs.declared.settle.Wanted.{Wanted}
+use Rattle.machine_defs.specs.declared.values.Arg.{Arg}
+use Rattle.machine_defs.specs.declared.values.Arg.TheVariants as arg
+use Rattle.code_machine.specs.declared.act.Act.{Act}
+use Rattle.code_machine.specs.declared.act.Act.TheVariants as act
+use Rattle.machine_defs.specs.Texts.{spaced, object_text, cause_text}
+use Rattle.rl_defs.specs.Registers.{Registers}
+use Rattle.code_runs.specs.declared.run.Wanted.{Wanted}
 
 -- an object is `o` and its number, a target `t` and its number
 abbrev pub target_text : ℕ → List ℕ
@@ -34,29 +34,29 @@ abbrev pub values_text : List Value → List ℕ
 values_text values = flat_map (λ v. spaced (value_text v)) values
 
 -- the instruction's word, and what it is done with, in the order of the instruction
-abbrev pub action_text : Action → List ℕ
-action_text (action.New s) = codes "new" ++ spaced (decimal s)
-action_text (action.Drop o) = codes "drop" ++ spaced (object_text o)
-action_text (action.Set o place values) = codes "set" ++ spaced (object_text o) ++ spaced (decimal place) ++ numbers_text values
-action_text (action.Wput place n) = codes "wput" ++ spaced (decimal place) ++ spaced (decimal n)
-action_text (action.Take slot) = codes "take" ++ spaced (decimal slot)
-action_text (action.Put slot o) = codes "put" ++ spaced (decimal slot) ++ spaced (object_text o)
-action_text (action.DevGet o block) = codes "devget" ++ spaced (object_text o) ++ spaced (decimal block)
-action_text (action.DevPut block o) = codes "devput" ++ spaced (decimal block) ++ spaced (object_text o)
-action_text (action.Hang o place v) = codes "hang" ++ spaced (object_text o) ++ spaced (decimal place) ++ spaced (object_text v)
-action_text (action.Unhang o place) = codes "unhang" ++ spaced (object_text o) ++ spaced (decimal place)
-action_text (action.Call x m args) = codes "call" ++ spaced (target_text x) ++ spaced (decimal m) ++ args_text args
-action_text (action.Ret values) = codes "ret" ++ values_text values
-action_text (action.Trap c) = codes "trap" ++ spaced (cause_text c)
+abbrev pub act_text : Act → List ℕ
+act_text (act.New s) = codes "new" ++ spaced (decimal s)
+act_text (act.Drop o) = codes "drop" ++ spaced (object_text o)
+act_text (act.Set o place v) = codes "set" ++ spaced (object_text o) ++ spaced (decimal place) ++ spaced (decimal v)
+act_text (act.Wput place n) = codes "wput" ++ spaced (decimal place) ++ spaced (decimal n)
+act_text (act.Take slot) = codes "take" ++ spaced (decimal slot)
+act_text (act.Put slot o) = codes "put" ++ spaced (decimal slot) ++ spaced (object_text o)
+act_text (act.DevGet o block) = codes "devget" ++ spaced (object_text o) ++ spaced (decimal block)
+act_text (act.DevPut block o) = codes "devput" ++ spaced (decimal block) ++ spaced (object_text o)
+act_text (act.Hang o place v) = codes "hang" ++ spaced (object_text o) ++ spaced (decimal place) ++ spaced (object_text v)
+act_text (act.Unhang o place) = codes "unhang" ++ spaced (object_text o) ++ spaced (decimal place)
+act_text (act.Call x m args) = codes "call" ++ spaced (target_text x) ++ spaced (decimal m) ++ args_text args
+act_text (act.Ret values) = codes "ret" ++ values_text values
+act_text (act.Trap c) = codes "trap" ++ spaced (cause_text c)
 
--- an action on a slot, a cell that an object hangs in, or a block
-abbrev pub moves : Action → Bool
-moves (action.Take slot) = true
-moves (action.Put slot o) = true
-moves (action.DevGet o block) = true
-moves (action.DevPut block o) = true
-moves (action.Hang o place v) = true
-moves (action.Unhang o place) = true
+-- an act on a slot, a cell that an object hangs in, or a block
+abbrev pub moves : Act → Bool
+moves (act.Take slot) = true
+moves (act.Put slot o) = true
+moves (act.DevGet o block) = true
+moves (act.DevPut block o) = true
+moves (act.Hang o place v) = true
+moves (act.Unhang o place) = true
 moves _ = false
 
 -- each register that holds something, with what it holds
@@ -68,6 +68,6 @@ abbrev pub registers_from : ℕ → Registers → List ℕ
 registers_from k [] = []
 registers_from k (v ∷ regs) = register_text k v ++ registers_from (k + 1) regs
 
--- the action, the fuel, the registers
+-- the act, the fuel, the registers
 abbrev pub wanted_text : Wanted → List ℕ
-wanted_text w = action_text w.action ++ codes ", fuel" ++ spaced (decimal w.fuel) ++ registers_from 0 w.registers ++ codes "\n"
+wanted_text w = act_text w.act ++ codes ", fuel" ++ spaced (decimal w.fuel) ++ registers_from 0 w.registers ++ codes "\n"

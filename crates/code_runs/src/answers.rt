@@ -1,24 +1,26 @@
 //! Whether an answer fits the action that it is given to.
 ghost use Rattle.std.specs.Prelude.{◌≡◌, ◌<◌, true, length, map};
 ghost use Rattle.rl_defs.specs.declared.code.Instr.{Instr as AnInstr};
-ghost use Rattle.rl_defs.specs.Crossing.{value_of};
+ghost use Rattle.machine_defs.specs.Arguments.{value_of};
 ghost use Rattle.rl_defs.specs.CodeKinds.{kinds_at, as_register};
-ghost use Rattle.rl_defs.specs.CodeFits.{FitsStand, FitsSight, FitsAnswer, fits_kind, are_values};
-ghost use Rattle.rl_defs.specs.CodeLaws.{StandsAt};
-ghost use Rattle.rl_defs.specs.Instructions.{object_in};
-ghost use Rattle.code_machine.specs.Fitting.{Awaits, IsLine};
+ghost use Rattle.machine_defs.specs.CodeFits.{FitsStand, FitsSight, FitsAnswer, are_values};
+ghost use Rattle.rl_defs.specs.Registers.{fits_kind};
+ghost use Rattle.machine_defs.specs.CodeLaws.{StandsAt};
+ghost use Rattle.machine_defs.specs.Instructions.{object_in};
+ghost use Rattle.code_machine.specs.Fitting.{standing, Awaits, IsLine};
 ghost use Rattle.code_runs.specs.Seen.{sight_of, types_of};
 ghost use Rattle.code_runs.specs.Suits.{is_held};
 ghost use Rattle.code_runs.specs.Answered.{suits_instr, answer_suits};
 
 use crate::rows::results_of;
 use crate::view::MemoryView;
-use rl_defs::arrays::Registers;
+use machine_defs::arrays::Registers;
+use machine_defs::frame::{Answer, View};
+use machine_defs::values::Arg;
 use rl_defs::checked::CheckedDomain;
 use rl_defs::code::{DomainLine, Instr, Register};
-use rl_defs::frame::{Answer, View};
 use rl_defs::tables::Kind;
-use rl_defs::values::{Arg, Value};
+use rl_defs::values::Value;
 
 fn value_is(view: &MemoryView, kind: Kind, value: Value) -> bool
     ensures { result ≡ fits_kind (types_of view.now) (as_register kind) (Some value) }
@@ -102,11 +104,13 @@ fn suits_instr(
     instr: &Instr,
     answer: &Answer,
 ) -> bool
-    requires stands { FitsStand (types_of view.now) domain.now (record { at = place; regs = registers.now }) }
+    requires stands { FitsStand (types_of view.now) domain.now (standing place registers.now) }
     requires sees { FitsSight (types_of view.now) domain.now (sight_of view.now) }
     requires here { IsLine domain.now place instr.now }
-    ensures exact { result ≡ suits_instr (types_of view.now) domain.now (sight_of view.now) (record { at = place; regs = registers.now }) instr.now answer.now }
-    ensures fits { result ≡ true → FitsAnswer (types_of view.now) domain.now (kinds_at domain.now place) instr.now answer.now }
+    ensures exact { result ≡ suits_instr (types_of view.now) domain.now (sight_of view.now)
+        (standing place registers.now) instr.now answer.now }
+    ensures fits { result ≡ true → FitsAnswer (types_of view.now) domain.now (kinds_at domain.now place)
+        instr.now answer.now }
 {
     let row = domain.row(place);
     match (instr, answer) {
@@ -141,11 +145,13 @@ pub fn answer_fits(
     registers: &Registers,
     answer: &Answer,
 ) -> bool
-    requires stands { FitsStand (types_of view.now) domain.now (record { at = line; regs = registers.now }) }
+    requires stands { FitsStand (types_of view.now) domain.now (standing line registers.now) }
     requires sees { FitsSight (types_of view.now) domain.now (sight_of view.now) }
-    ensures exact { result ≡ answer_suits (types_of view.now) domain.now (sight_of view.now) (record { at = line; regs = registers.now }) answer.now }
-    ensures awaits { result ≡ true → Awaits domain.now (record { at = line; regs = registers.now }) answer.now }
-    ensures fits { result ≡ true → (i : AnInstr) → StandsAt domain.now i (record { at = line; regs = registers.now }) → FitsAnswer (types_of view.now) domain.now (kinds_at domain.now line) i answer.now }
+    ensures exact { result ≡ answer_suits (types_of view.now) domain.now (sight_of view.now)
+        (standing line registers.now) answer.now }
+    ensures awaits { result ≡ true → Awaits domain.now (standing line registers.now) answer.now }
+    ensures fits { result ≡ true → (i : AnInstr) → StandsAt domain.now i (standing line registers.now) →
+        FitsAnswer (types_of view.now) domain.now (kinds_at domain.now line) i answer.now }
 {
     let place = line as usize;
     match &domain.lines()[place].form {

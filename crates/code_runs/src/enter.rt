@@ -1,11 +1,11 @@
 //! How a call of a domain's method begins.
 ghost use Rattle.std.specs.Prelude.{ℕ, IfSome, Some, is_some, ◌≡◌};
 ghost use Rattle.rl_defs.specs.Domains.{is_native, names_native};
-ghost use Rattle.rl_defs.specs.CodeFits.{FitsStand, stand_of};
-ghost use Rattle.rl_defs.specs.CodeLaws.{FitsArguments};
-ghost use Rattle.rl_defs.specs.declared.frame.FrameBody.TheVariants as body;
-ghost use Rattle.rl_defs.specs.Crossing.{entry_registers};
-ghost use Rattle.rl_defs.specs.LineRows.{entry_at};
+ghost use Rattle.machine_defs.specs.CodeFits.{FitsStand, stand_of};
+ghost use Rattle.machine_defs.specs.CodeLaws.{FitsArguments};
+ghost use Rattle.machine_defs.specs.declared.frame.FrameBody.TheVariants as body;
+ghost use Rattle.machine_defs.specs.Arguments.{entry_registers};
+ghost use Rattle.rl_defs.specs.CodeNames.{entry_at};
 ghost use Rattle.code_runs.specs.Seen.{types_of};
 ghost use Rattle.code_runs.specs.Entered.{method_for, may_begin};
 
@@ -13,12 +13,12 @@ use crate::answers::args_are;
 use crate::rows::{methods_of, place_of, trait_number};
 use crate::view::MemoryView;
 use code_machine::entry::body_at_entry;
+use machine_defs::frame::FrameBody;
+use machine_defs::values::Arg;
 use rl_defs::bundle::Numbered;
 use rl_defs::checked::CheckedDomain;
 use rl_defs::code::DomainLine;
-use rl_defs::frame::FrameBody;
 use rl_defs::lookups::trait_name;
-use rl_defs::values::Arg;
 
 fn names_native(form: &DomainLine) -> bool
     ensures { result ≡ names_native form.now }
@@ -63,7 +63,9 @@ pub fn begin(
     args: &[Arg],
 ) -> Option<FrameBody<()>>
     ensures exact { is_some result ≡ may_begin (types_of view.now) domain.now name.now args.now }
-    ensures begins { IfSome result (λ b. (method place : ℕ) → method_for (types_of view.now) domain.now name.now args.now ≡ Some method → entry_at domain.now method ≡ Some place → b ≡ body.Code place (entry_registers args.now)) }
+    ensures begins { IfSome result (λ b. (method place : ℕ) →
+        method_for (types_of view.now) domain.now name.now args.now ≡ Some method → entry_at domain.now method
+        ≡ Some place → b ≡ body.Code place (entry_registers args.now)) }
     ensures fits { IfSome result (λ body. FitsStand (types_of view.now) domain.now (stand_of body)) }
 {
     if is_native(domain.lines()) {

@@ -1,7 +1,7 @@
 //! Whether a view fits a domain.
 ghost use Rattle.std.specs.Prelude.{◌≡◌, true};
 ghost use Rattle.rl_defs.specs.CodeNames.{slots, imports};
-ghost use Rattle.rl_defs.specs.CodeFits.{FitsSight};
+ghost use Rattle.machine_defs.specs.CodeFits.{FitsSight};
 ghost use Rattle.code_runs.specs.Seen.{sight_of, types_of};
 ghost use Rattle.code_runs.specs.Suits.{cell_suits, cells_suit, objects_suit, slot_suits, slots_suit, binds_suit, suits};
 

@@ -5,13 +5,14 @@ use crate::run::{Bounds, frame_of, go_on, wants};
 use crate::text::put_wanted;
 use crate::view::{Cell, MemoryView, SeenObject};
 use domain_loader::load::load;
-use rl_defs::Memory;
-use rl_defs::arrays::Results;
+use machine_defs::arrays::Results;
+use machine_defs::frame::Answer;
+use machine_defs::values::{Arg, RpcCode};
 use rl_defs::checked::CheckedDomain;
-use rl_defs::frame::Answer;
 use rl_defs::list::List;
-use rl_defs::values::{Arg, RpcCode, Value};
-use std::alloc::Global;
+use rl_defs::load::Load;
+use rl_defs::values::Value;
+use std::alloc::{AllocError, Global};
 use std::test::Fail;
 
 /// Struct 0 is `Item`, 1 `Bag`, 2 `Block`; trait 0 is `Peer`, 1 `Work`. Slot 0 is `full`, slot 1 `empty`.
@@ -51,8 +52,8 @@ pub const PLAIN: Case<'static> = Case {
     says: "",
 };
 
-// The domain of a case, as the loader reads it.
-fn domain_of(alloc: Global, case: Case<'_>) -> Result<CheckedDomain, Fail> {
+// The load of a case, as the loader reads it.
+fn load_of(alloc: Global, case: Case<'_>) -> Result<Load, Fail> {
     let mut text = String::new(alloc);
     for part in [HEAD, case.method, DOMAIN, case.words, KEPT, case.code, END] {
         text.push_str(part)?;
@@ -61,9 +62,7 @@ fn domain_of(alloc: Global, case: Case<'_>) -> Result<CheckedDomain, Fail> {
     if bytes.len() > 1_048_576 {
         return Err("too long")?;
     }
-    let load = load(alloc, bytes).map_err(|_| "no load")?;
-    let mut domains = load.domains.into_vec();
-    Ok(domains.pop().ok_or("no domain")?)
+    Ok(load(alloc, bytes).map_err(|_| "no load")?)
 }
 
 fn object(alloc: Global, of: u32, cells: &[Cell]) -> Result<SeenObject, Fail> {
@@ -261,7 +260,7 @@ fn run(
     let wanted = wants(domain, view, &frame, bounds);
     match put_wanted(&mut out, &wanted) {
         Ok(()) => Ok(out),
-        Err(Memory) => Err(RunFault::Memory),
+        Err(AllocError) => Err(RunFault::Memory),
     }
 }
 
@@ -276,14 +275,15 @@ fn fault_word(fault: RunFault) -> &'static str {
 
 // What a case says in a view.
 fn said_in(alloc: Global, view: &MemoryView, case: Case<'_>) -> Result<String, Fail> {
-    let domain = domain_of(alloc, case)?;
+    let load = load_of(alloc, case)?;
+    let domain = load.rows().domains.get(0).ok_or("no domain")?;
     let args = args_of(alloc, case.args)?;
     let answers = answers_of(alloc, case.answers)?;
     let bounds = Bounds {
         fuel: case.fuel,
         live: case.live,
     };
-    match run(alloc, &domain, view, b"f", args.as_slice(), bounds, answers) {
+    match run(alloc, domain, view, b"f", args.as_slice(), bounds, answers) {
         Ok(text) => Ok(String::from_utf8(text).map_err(|_| "no text")?),
         Err(fault) => Ok(String::from_str(alloc, fault_word(fault))?),
     }

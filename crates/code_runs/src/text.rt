@@ -1,26 +1,24 @@
 //! What a frame wants, in one line of text.
 ghost use Rattle.std.specs.Prelude.{◌≡◌, ◌++◌, true, OnOk};
 ghost use Rattle.std.specs.Fmt.{decimal};
-ghost use Rattle.rl_defs.specs.Texts as text;
-ghost use Rattle.code_runs.specs.Wants.{arg_text, args_text, value_text, values_text, action_text, register_text, registers_from, wanted_text};
+ghost use Rattle.machine_defs.specs.Texts as text;
+ghost use Rattle.code_runs.specs.Wants.{arg_text, args_text, value_text, values_text, act_text, register_text, registers_from, wanted_text};
 ghost use Rattle.code_runs.specs.Wants.{moves};
 
-use code_machine::settle::Wanted;
+use crate::run::Wanted;
+use code_machine::act::Act;
 use itoa::Buffer;
-use rl_defs::Memory;
-use rl_defs::frame::Action;
-use rl_defs::values::{Arg, Cause, Value};
+use machine_defs::values::{Arg, Cause};
+use rl_defs::values::Value;
+use std::alloc::AllocError;
 
-fn put(out: &mut Vec<u8>, bytes: &[u8]) -> Result<(), Memory>
+fn put(out: &mut Vec<u8>, bytes: &[u8]) -> Result<(), AllocError>
     ensures { OnOk result (out.new.items ≡ out.old.items ++ bytes.now) }
 {
-    match out.extend_from_slice(bytes) {
-        Ok(()) => Ok(()),
-        Err(_) => Err(Memory),
-    }
+    out.extend_from_slice(bytes)
 }
 
-fn put_digits(out: &mut Vec<u8>, number: u64) -> Result<(), Memory>
+fn put_digits(out: &mut Vec<u8>, number: u64) -> Result<(), AllocError>
     ensures { OnOk result (out.new.items ≡ out.old.items ++ decimal number) }
 {
     let mut digits = Buffer::new();
@@ -28,7 +26,7 @@ fn put_digits(out: &mut Vec<u8>, number: u64) -> Result<(), Memory>
 }
 
 // Puts a number behind a blank.
-fn put_number(out: &mut Vec<u8>, number: u64) -> Result<(), Memory>
+fn put_number(out: &mut Vec<u8>, number: u64) -> Result<(), AllocError>
     ensures { OnOk result (out.new.items ≡ out.old.items ++ text.spaced (decimal number)) }
 {
     put(out, b" ")?;
@@ -36,14 +34,14 @@ fn put_number(out: &mut Vec<u8>, number: u64) -> Result<(), Memory>
 }
 
 // Puts an object behind a blank.
-fn put_object(out: &mut Vec<u8>, object: u64) -> Result<(), Memory>
+fn put_object(out: &mut Vec<u8>, object: u64) -> Result<(), AllocError>
     ensures { OnOk result (out.new.items ≡ out.old.items ++ text.spaced (text.object_text object)) }
 {
     put(out, b" o")?;
     put_digits(out, object)
 }
 
-fn put_arg(out: &mut Vec<u8>, arg: Arg) -> Result<(), Memory>
+fn put_arg(out: &mut Vec<u8>, arg: Arg) -> Result<(), AllocError>
     ensures { OnOk result (out.new.items ≡ out.old.items ++ text.spaced (arg_text arg)) }
 {
     match arg {
@@ -60,7 +58,7 @@ fn put_arg(out: &mut Vec<u8>, arg: Arg) -> Result<(), Memory>
     }
 }
 
-fn put_args(out: &mut Vec<u8>, args: &[Arg]) -> Result<(), Memory>
+fn put_args(out: &mut Vec<u8>, args: &[Arg]) -> Result<(), AllocError>
     ensures { OnOk result (out.new.items ≡ out.old.items ++ args_text args.now) }
 {
     'each: for arg in args {
@@ -69,7 +67,7 @@ fn put_args(out: &mut Vec<u8>, args: &[Arg]) -> Result<(), Memory>
     Ok(())
 }
 
-fn put_value(out: &mut Vec<u8>, value: Value) -> Result<(), Memory>
+fn put_value(out: &mut Vec<u8>, value: Value) -> Result<(), AllocError>
     ensures { OnOk result (out.new.items ≡ out.old.items ++ text.spaced (value_text value)) }
 {
     match value {
@@ -82,20 +80,11 @@ fn put_value(out: &mut Vec<u8>, value: Value) -> Result<(), Memory>
     }
 }
 
-fn put_values(out: &mut Vec<u8>, values: &[Value]) -> Result<(), Memory>
+fn put_values(out: &mut Vec<u8>, values: &[Value]) -> Result<(), AllocError>
     ensures { OnOk result (out.new.items ≡ out.old.items ++ values_text values.now) }
 {
     'each: for value in values {
         put_value(out, *value)?;
-    }
-    Ok(())
-}
-
-fn put_numbers(out: &mut Vec<u8>, numbers: &[u64]) -> Result<(), Memory>
-    ensures { OnOk result (out.new.items ≡ out.old.items ++ text.numbers_text numbers.now) }
-{
-    'each: for number in numbers {
-        put_number(out, *number)?;
     }
     Ok(())
 }
@@ -117,79 +106,79 @@ fn cause_word(cause: Cause) -> &'static [u8]
     }
 }
 
-// Puts an action, by the instruction's word and what it is done with.
-fn put_action(out: &mut Vec<u8>, action: &Action) -> Result<(), Memory>
-    ensures { OnOk result (out.new.items ≡ out.old.items ++ action_text action.now) }
+// Puts an act, by the instruction's word and what it is done with.
+fn put_act(out: &mut Vec<u8>, act: &Act) -> Result<(), AllocError>
+    ensures { OnOk result (out.new.items ≡ out.old.items ++ act_text act.now) }
 {
-    match action {
-        Action::New(of) => {
+    match act {
+        Act::New(of) => {
             put(out, b"new")?;
             put_number(out, u64::from(*of))
         }
-        Action::Drop(object) => {
+        Act::Drop(object) => {
             put(out, b"drop")?;
             put_object(out, *object)
         }
-        Action::Set(object, at, values) => {
+        Act::Set(object, at, number) => {
             put(out, b"set")?;
             put_object(out, *object)?;
             put_number(out, u64::from(*at))?;
-            put_numbers(out, values.as_slice())
+            put_number(out, *number)
         }
-        Action::Wput(at, number) => {
+        Act::Wput(at, number) => {
             put(out, b"wput")?;
             put_number(out, u64::from(*at))?;
             put_number(out, *number)
         }
-        Action::Call(target, method, args) => {
+        Act::Call(target, method, args) => {
             put(out, b"call t")?;
             put_digits(out, u64::from(*target))?;
             put_number(out, u64::from(*method))?;
             put_args(out, args.as_slice())
         }
-        Action::Ret(values) => {
+        Act::Ret(values) => {
             put(out, b"ret")?;
             put_values(out, values.as_slice())
         }
-        Action::Trap(cause) => {
+        Act::Trap(cause) => {
             put(out, b"trap ")?;
             put(out, cause_word(*cause))
         }
-        _ => put_move(out, action),
+        _ => put_move(out, act),
     }
 }
 
-// Puts an action on slots, cells that objects hang in, and blocks.
-fn put_move(out: &mut Vec<u8>, action: &Action) -> Result<(), Memory>
-    ensures { OnOk result (moves action.now ≡ true → out.new.items ≡ out.old.items ++ action_text action.now) }
+// Puts an act on slots, cells that objects hang in, and blocks.
+fn put_move(out: &mut Vec<u8>, act: &Act) -> Result<(), AllocError>
+    ensures { OnOk result (moves act.now ≡ true → out.new.items ≡ out.old.items ++ act_text act.now) }
 {
-    match action {
-        Action::Take(slot) => {
+    match act {
+        Act::Take(slot) => {
             put(out, b"take")?;
             put_number(out, u64::from(*slot))
         }
-        Action::Put(slot, object) => {
+        Act::Put(slot, object) => {
             put(out, b"put")?;
             put_number(out, u64::from(*slot))?;
             put_object(out, *object)
         }
-        Action::DevGet(object, block) => {
+        Act::DevGet(object, block) => {
             put(out, b"devget")?;
             put_object(out, *object)?;
             put_number(out, *block)
         }
-        Action::DevPut(block, object) => {
+        Act::DevPut(block, object) => {
             put(out, b"devput")?;
             put_number(out, *block)?;
             put_object(out, *object)
         }
-        Action::Hang(object, at, below) => {
+        Act::Hang(object, at, below) => {
             put(out, b"hang")?;
             put_object(out, *object)?;
             put_number(out, u64::from(*at))?;
             put_object(out, *below)
         }
-        Action::Unhang(object, at) => {
+        Act::Unhang(object, at) => {
             put(out, b"unhang")?;
             put_object(out, *object)?;
             put_number(out, u64::from(*at))
@@ -198,7 +187,7 @@ fn put_move(out: &mut Vec<u8>, action: &Action) -> Result<(), Memory>
     }
 }
 
-fn put_register(out: &mut Vec<u8>, place: u64, held: Option<Value>) -> Result<(), Memory>
+fn put_register(out: &mut Vec<u8>, place: u64, held: Option<Value>) -> Result<(), AllocError>
     ensures { OnOk result (out.new.items ≡ out.old.items ++ register_text place held) }
 {
     match held {
@@ -211,7 +200,7 @@ fn put_register(out: &mut Vec<u8>, place: u64, held: Option<Value>) -> Result<()
     }
 }
 
-fn put_registers(out: &mut Vec<u8>, registers: &[Option<Value>]) -> Result<(), Memory>
+fn put_registers(out: &mut Vec<u8>, registers: &[Option<Value>]) -> Result<(), AllocError>
     ensures { OnOk result (out.new.items ≡ out.old.items ++ registers_from 0 registers.now) }
 {
     'each: for place in 0..registers.len() {
@@ -222,10 +211,10 @@ fn put_registers(out: &mut Vec<u8>, registers: &[Option<Value>]) -> Result<(), M
 
 /// Puts what a frame wants: the action or the trap, the fuel that is left, and each register that holds something. An object is `o` and
 /// its number, a target `t` and its number; structs, slots and methods are told by their numbers.
-pub fn put_wanted(out: &mut Vec<u8>, wanted: &Wanted) -> Result<(), Memory>
+pub fn put_wanted(out: &mut Vec<u8>, wanted: &Wanted) -> Result<(), AllocError>
     ensures { OnOk result (out.new.items ≡ out.old.items ++ wanted_text wanted.now) }
 {
-    put_action(out, &wanted.action)?;
+    put_act(out, &wanted.act)?;
     put(out, b", fuel")?;
     put_number(out, u64::from(wanted.fuel))?;
     put_registers(out, wanted.registers.as_slice())?;

@@ -3,7 +3,7 @@ ghost use Rattle.std.specs.Prelude.{◌≡◌, ◌==◌};
 ghost use Rattle.std.specs.List.{slice_index_or};
 ghost use Rattle.code_runs.specs.Seen.{cell_at, types_of};
 
-use rl_defs::frame::View;
+use machine_defs::frame::View;
 use rl_defs::list::List;
 
 /// What a cell of an object holds.

@@ -1,5 +1,5 @@
 use Rattle.std.proofs.Common.{◌≡◌, Some, sym, ◌∙◌, subst, arith}
-use Rattle.rl_defs.specs.CodeRules.{label_of, place_of_label}
+use Rattle.rl_defs.specs.CodeNames.{label_of, place_of_label}
 use Rattle.std.proofs.lemmas.Option.{slice_get_within}
 use Rattle.code_machine.proofs.Answering.{code_form, same_instr, failed_place, failed_head, failed_goes, went_goes}
 use Rattle.code_machine.proofs.answer.behind.Goals as goal

@@ -1,6 +1,6 @@
 use Rattle.std.proofs.Common.{◌≡◌, drop}
 use Rattle.rl_defs.specs.CodeKinds.{passed}
-use Rattle.rl_defs.specs.CodeFits.{all_given_up}
+use Rattle.machine_defs.specs.Instructions.{all_given_up}
 use Rattle.code_machine.proofs.answer.give_up_passed.Given as goal
 
 abbrev pub invariant-each : goal.invariant-each

@@ -1,5 +1,5 @@
 use Rattle.std.proofs.Common.{◌≡◌, drop}
-use Rattle.rl_defs.specs.CodeFits.{put_values}
+use Rattle.machine_defs.specs.Instructions.{put_values}
 use Rattle.code_machine.proofs.answer.put_values.Given as goal
 
 abbrev pub invariant-each : goal.invariant-each

@@ -1,6 +1,6 @@
 use Rattle.std.proofs.Common.{◌≡◌, ◌≤◌, ◌-◌, ◌++◌, length, map, take, Some, None}
 use Rattle.std.specs.Prelude.{replicate}
-use Rattle.rl_defs.specs.Crossing.{value_of}
+use Rattle.machine_defs.specs.Arguments.{value_of}
 use Rattle.code_machine.proofs.entry.entry_registers.Given as goal
 
 abbrev pub invariant-each : goal.invariant-each

@@ -1,5 +1,5 @@
 use Rattle.std.proofs.Common.{◌≡◌, ◌≤◌, length, map, take}
-use Rattle.rl_defs.specs.Instructions.{result_in}
+use Rattle.machine_defs.specs.Instructions.{result_in}
 use Rattle.code_machine.proofs.registers.results.Given as goal
 
 abbrev pub invariant-each : goal.invariant-each

@@ -1,5 +1,5 @@
 use Rattle.std.proofs.Common.{sym, ◌∙◌, ap}
-use Rattle.code_machine.proofs.Going.{standing}
+use Rattle.code_machine.specs.Fitting.{standing}
 use Rattle.code_machine.proofs.settle.come.Goals as goal
 
 pub returns : goal.returns

@@ -1,5 +1,6 @@
 use Rattle.std.proofs.Common.{sym, ◌∙◌, ap}
-use Rattle.code_machine.proofs.Going.{standing, jumps_behind}
+use Rattle.code_machine.proofs.Going.{jumps_behind}
+use Rattle.code_machine.specs.Fitting.{standing}
 use Rattle.code_machine.proofs.settle.come_to_label.Goals as goal
 
 pub returns : goal.returns

@@ -1,5 +1,5 @@
 use Rattle.std.proofs.Common.{◌≡◌, drop}
-use Rattle.rl_defs.specs.Instructions.{args_fit}
+use Rattle.machine_defs.specs.Instructions.{args_fit}
 use Rattle.code_machine.proofs.widths.args_fit.Given as goal
 
 abbrev pub invariant-each : goal.invariant-each

@@ -1,5 +1,5 @@
 use Rattle.std.proofs.Common.{sym, subst}
-use Rattle.rl_defs.specs.Instructions.{Outcome}
+use Rattle.machine_defs.specs.Instructions.{Outcome}
 use Rattle.code_machine.specs.Went.{Comes}
 use Rattle.code_machine.proofs.Going.{line_here, work_means}
 use Rattle.code_machine.proofs.work.work.Goals as goal

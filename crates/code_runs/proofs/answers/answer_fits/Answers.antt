@@ -1,6 +1,6 @@
 use Rattle.std.proofs.Common.{subst, inl, sym, ◌∙◌, ap}
 use Rattle.rl_defs.specs.CodeKinds.{kinds_at}
-use Rattle.rl_defs.specs.CodeFits.{FitsAnswer}
+use Rattle.machine_defs.specs.CodeFits.{FitsAnswer}
 use Rattle.code_machine.proofs.Going.{line_here}
 use Rattle.code_runs.specs.Seen.{sight_of, types_of}
 use Rattle.code_runs.specs.Answered.{suits_line}

@@ -1,6 +1,6 @@
 use Rattle.std.proofs.Common.{◌≡◌, drop, map}
-use Rattle.rl_defs.specs.Crossing.{value_of}
-use Rattle.rl_defs.specs.CodeFits.{are_values}
+use Rattle.machine_defs.specs.Arguments.{value_of}
+use Rattle.machine_defs.specs.CodeFits.{are_values}
 use Rattle.code_runs.specs.Seen.{types_of}
 use Rattle.code_runs.proofs.answers.args_are.Given as goal
 

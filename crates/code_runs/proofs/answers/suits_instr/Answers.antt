@@ -2,7 +2,7 @@ use Rattle.std.proofs.Common.{sym, ◌∙◌, ap}
 use Rattle.rl_defs.specs.CodeKinds.{kinds_at}
 use Rattle.rl_defs.specs.CodeNames.{methods_of, results_of}
 use Rattle.std.specs.Prelude.{slice_get}
-use Rattle.rl_defs.specs.CodeFits.{are_values}
+use Rattle.machine_defs.specs.CodeFits.{are_values}
 use Rattle.code_machine.proofs.Naming.{at_line}
 use Rattle.code_runs.specs.Seen.{sight_of, types_of}
 use Rattle.code_runs.specs.Suits.{is_held}

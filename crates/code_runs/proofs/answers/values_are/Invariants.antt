@@ -1,5 +1,5 @@
 use Rattle.std.proofs.Common.{◌≡◌, drop}
-use Rattle.rl_defs.specs.CodeFits.{are_values}
+use Rattle.machine_defs.specs.CodeFits.{are_values}
 use Rattle.code_runs.specs.Seen.{types_of}
 use Rattle.code_runs.proofs.answers.values_are.Given as goal
 

@@ -3,8 +3,8 @@ use Rattle.std.proofs.lemmas.Option.{slice_get_read}
 use Rattle.rl_defs.specs.declared.tables.MethodRow.{MethodRow}
 use Rattle.rl_defs.specs.Domains.{trait_name}
 use Rattle.rl_defs.specs.CodeNames.{trait_number, methods_of}
-use Rattle.rl_defs.specs.CodeFits.{are_values}
-use Rattle.rl_defs.specs.Crossing.{value_of}
+use Rattle.machine_defs.specs.CodeFits.{are_values}
+use Rattle.machine_defs.specs.Arguments.{value_of}
 use Rattle.code_runs.specs.Seen.{types_of}
 use Rattle.code_runs.proofs.Entering.{place_lt, place_fits, arguments_fit, method_is}
 use Rattle.code_runs.proofs.enter.method_for.Goals as goal

@@ -1,8 +1,9 @@
 use Rattle.std.proofs.Common.{sym, ◌∙◌, ap, subst}
 use Rattle.rl_defs.specs.CodeKinds.{kinds_at}
-use Rattle.rl_defs.specs.Instructions.{Stand}
-use Rattle.rl_defs.specs.CodeFits.{FitsStand, FitsAnswer, stand_of, after_answer}
-use Rattle.rl_defs.specs.CodeLaws.{StandsAt}
+use Rattle.rl_defs.specs.Registers.{Stand}
+use Rattle.machine_defs.specs.CodeFits.{FitsStand, FitsAnswer, stand_of}
+use Rattle.machine_defs.specs.Instructions.{after_answer}
+use Rattle.machine_defs.specs.CodeLaws.{StandsAt}
 use Rattle.code_runs.specs.Seen.{types_of}
 use Rattle.code_runs.proofs.run.go_on.Goals as goal
 

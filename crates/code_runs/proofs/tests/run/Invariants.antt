@@ -1,4 +1,4 @@
-use Rattle.rl_defs.specs.CodeFits.{FitsStand, stand_of}
+use Rattle.machine_defs.specs.CodeFits.{FitsStand, stand_of}
 use Rattle.code_runs.specs.Seen.{types_of}
 use Rattle.code_runs.proofs.tests.run.Given as goal
 
