@@ -1,12 +1,14 @@
 -- Rules 3 and 4 in the clients, line by line.
-use Rattle.std.proofs.Common.{◌≡◌, ℕ, Bool, true, false, ◌||◌, [], Some, ◌⊎◌, inl, inr, refl}
+use Rattle.bundle_names.proofs.Lists.{get_map, get_map_back}
+use Rattle.std.proofs.Common.{sym, subst, ◌≡◌, ℕ, Bool, true, false, ◌||◌, [], Some, ◌⊎◌, inl, inr, refl, map, subst, List}
 use Rattle.std.specs.Prelude.{take}
 use Rattle.rl_defs.specs.declared.bundle.ClientLine.{ClientLine}
 use Rattle.rl_defs.specs.declared.bundle.Bundle.{Bundle}
 use Rattle.rl_defs.specs.Interfaces.{struct_names}
 use Rattle.rl_defs.specs.Parts.{block_behind, forms_of}
 use Rattle.rl_defs.specs.BundleParts.{client_part, Outside}
-use Rattle.rl_defs.specs.BundleNames.{given_by, names_of, client_given, name_given, struct_made, targets_called, names_used, target_names, scripts_of, ClientTwice, ScriptNameTwice, UnknownScriptName}
+use Rattle.rl_defs.specs.BundleNames.{given_by, names_of, client_given, name_given, target_names, scripts_of, Given}
+use Rattle.rl_defs.specs.NameRules.{struct_made, targets_called, names_used, UnknownScriptName, GivenTwice, GivenTwiceInOne}
 use Rattle.rl_defs.specs.BundleOrder.{Rise, numbers_of}
 use Rattle.bundle_names.specs.declared.clients.Scripts.{Scripts}
 use Rattle.bundle_names.specs.Tests.{repeats, has_unknown}
@@ -31,18 +33,29 @@ uses_skips : SkipsHeads uses_unbound
 uses_skips = record { heads = λ bound name h. let f : false ≡ true = h in cc; closes = λ bound h. let f : false ≡ true = h in cc }
 
 -- a script name that is bound again
-twice_some : (b : Bundle) (n : ℕ) → ScriptNameTwice b n → SomeMeets binds_again (scripts_of b.clients.lines) n
-twice_some b n t = let at = to_place binds_again [] t.script n (twice_meets name_given t.script n t.twice) in record { number = t.number; script = t.script; there = t.client; meets = record { place = at.place; form = at.form; here = at.here; holds = at.holds } }
+twice_some : (b : Bundle) (n : ℕ) → GivenTwiceInOne (map (given_by name_given) (scripts_of b.clients.lines)) n → SomeMeets binds_again (scripts_of b.clients.lines) n
+twice_some b n t =
+    let script = get_map_back (given_by name_given) (scripts_of b.clients.lines) t.number t.names t.here in
+    let at = to_place binds_again [] script.0 n (twice_meets name_given script.0 n (subst (λ (gs : List Given). GivenTwice gs n) (sym script.2) t.twice)) in
+    record { number = t.number; script = script.0; there = script.1; meets = record { place = at.place; form = at.form; here = at.here; holds = at.holds } }
 
-some_twice : (b : Bundle) (n : ℕ) → SomeMeets binds_again (scripts_of b.clients.lines) n → ScriptNameTwice b n
-some_twice b n s = record { script = s.script; number = s.number; client = s.there; twice = meets_twice name_given s.script n (from_place binds_again [] s.script n s.meets.place s.meets.form s.meets.here s.meets.holds) }
+some_twice : (b : Bundle) (n : ℕ) → SomeMeets binds_again (scripts_of b.clients.lines) n → GivenTwiceInOne (map (given_by name_given) (scripts_of b.clients.lines)) n
+some_twice b n s = record {
+  number = s.number;
+  names = given_by name_given s.script;
+  here = get_map (given_by name_given) (scripts_of b.clients.lines) s.number s.script s.there;
+  twice = meets_twice name_given s.script n (from_place binds_again [] s.script n s.meets.place s.meets.form s.meets.here s.meets.holds);
+}
 
 -- a script name that isn't bound
 unknown_some : (b : Bundle) (n : ℕ) → UnknownScriptName b n → SomeMeets uses_unbound (scripts_of b.clients.lines) n
-unknown_some b n u = record { number = u.number; script = u.script; there = u.client; meets = record { place = u.place; form = u.form; here = u.here; holds = unknown_used (names_of (given_by name_given (take u.place u.script))) (names_used u.form) u.unknown } }
+unknown_some b n u = let at = u.command in record { number = at.number; script = at.script; there = at.client; meets = record { place = at.place; form = at.form; here = at.here; holds = unknown_used (names_of (given_by name_given (take at.place at.script))) (names_used at.form) u.unknown } }
 
 some_unknown : (b : Bundle) (n : ℕ) → SomeMeets uses_unbound (scripts_of b.clients.lines) n → UnknownScriptName b n
-some_unknown b n s = record { script = s.script; number = s.number; client = s.there; place = s.meets.place; form = s.meets.form; here = s.meets.here; unknown = used_unknown (names_of (given_by name_given (take s.meets.place s.script))) (names_used s.meets.form) s.meets.holds }
+some_unknown b n s = record {
+  command = record { script = s.script; number = s.number; client = s.there; place = s.meets.place; form = s.meets.form; here = s.meets.here };
+  unknown = used_unknown (names_of (given_by name_given (take s.meets.place s.script))) (names_used s.meets.form) s.meets.holds;
+}
 
 abbrev clients_again : Scripts → ClientLine → Bool
 clients_again s f = repeats s.clients (client_given f)
@@ -70,11 +83,11 @@ nothing_used b s f = uses_nothing (usable_names b) s f
 abbrev InOrder : Bundle → Type 0
 InOrder b = block_behind client_part (forms_of b.clients.lines) ≡ Some client_part.outside
 
-client_again : (b : Bundle) (n : ℕ) → InOrder b → ClientTwice b n ⊎ ScriptNameTwice b n → Meets script_after names_again no_scripts b.clients.lines n
+client_again : (b : Bundle) (n : ℕ) → InOrder b → GivenTwice (given_by client_given b.clients.lines) n ⊎ GivenTwiceInOne (map (given_by name_given) (scripts_of b.clients.lines)) n → Meets script_after names_again no_scripts b.clients.lines n
 client_again b n order (inl t) = or_meets_first script_after clients_again scripts_again no_scripts b.clients.lines n (part_meets script_after (given_more client_given) (given_before client_given) (λ s. s.clients) (λ s f. refl) no_scripts b.clients.lines n (twice_meets client_given b.clients.lines n t))
 client_again b n order (inr t) = or_meets_second script_after clients_again scripts_again no_scripts b.clients.lines n (part_meets script_after bound_after binds_again (λ s. s.bound) (λ s f. refl) no_scripts b.clients.lines n (going_meets binds_again Outside [] b.clients.lines n (in_order b.clients.lines order) (twice_some b n t)))
 
-again_client : (b : Bundle) (n : ℕ) → InOrder b → Meets script_after names_again no_scripts b.clients.lines n → ClientTwice b n ⊎ ScriptNameTwice b n
+again_client : (b : Bundle) (n : ℕ) → InOrder b → Meets script_after names_again no_scripts b.clients.lines n → GivenTwice (given_by client_given b.clients.lines) n ⊎ GivenTwiceInOne (map (given_by name_given) (scripts_of b.clients.lines)) n
 again_client b n order h = elim (meets_or script_after clients_again scripts_again no_scripts b.clients.lines n h) [
   | inl t ↦ inl (meets_twice client_given b.clients.lines n (meets_part script_after (given_more client_given) (given_before client_given) (λ s. s.clients) (λ s f. refl) no_scripts b.clients.lines n t))
   | inr t ↦ inr (some_twice b n (meets_going binds_again binds_skips Outside [] b.clients.lines n (in_order b.clients.lines order) (meets_part script_after bound_after binds_again (λ s. s.bound) (λ s f. refl) no_scripts b.clients.lines n t)))

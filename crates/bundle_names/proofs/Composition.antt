@@ -6,11 +6,10 @@ use Rattle.rl_defs.specs.declared.bundle.Numbered.{Numbered}
 use Rattle.rl_defs.specs.declared.bundle.Bundle.{Bundle}
 use Rattle.rl_defs.specs.declared.idl.IdlLine.{IdlLine}
 use Rattle.rl_defs.specs.Refusals.{Failing, Nowhere, Answers}
-use Rattle.rl_defs.specs.NameRules.{FailsNames}
+use Rattle.rl_defs.specs.NameRules.{FailsNames, FailsBundleNames}
 use Rattle.rl_defs.specs.Interfaces.{Rises}
-use Rattle.rl_defs.specs.BundleNames.{FailsBundleNames}
 use Rattle.rl_defs.specs.BundleOrder.{IsOrdered, Rise, numbers_of}
-use Rattle.declared_names.specs.DomainNames.{FailsDomainNames}
+use Rattle.bundle_names.specs.DomainNames.{FailsDomainNames}
 use Rattle.bundle_names.specs.PlanNames.{FailsPlanNames, given_after, gives_again, none_given}
 use Rattle.bundle_names.specs.ClientNames.{FailsClientNames, script_after, names_again, no_scripts}
 use Rattle.bundle_names.proofs.Walking.{meets_number}

@@ -3,7 +3,8 @@ use Rattle.std.proofs.Common.{◌≡◌, ℕ, zero, suc, ◌<◌, Bool, List, []
 use Rattle.std.specs.Prelude.{slice_get, IsTrue}
 use Rattle.std.proofs.lemmas.List.{append-nil}
 use Rattle.rl_defs.specs.declared.bundle.Numbered.{Numbered}
-use Rattle.rl_defs.specs.BundleNames.{Given, given, GivenTwice, given_by}
+use Rattle.rl_defs.specs.BundleNames.{Given, given, given_by}
+use Rattle.rl_defs.specs.NameRules.{GivenTwice}
 use Rattle.rl_defs.proofs.Places.{get_seam, get_front, get_last}
 use Rattle.bundle_names.specs.Tests.{is_given, repeats}
 use Rattle.bundle_names.proofs.Naming.{or_either, or_first, or_second, stands_given, given_stands}

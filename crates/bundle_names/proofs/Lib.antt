@@ -1,3 +1,17 @@
+pub mod Lists
+pub mod Scoping
+pub mod Lasting
+pub mod Scanning
+pub mod NamesInOrder
+pub mod FlatLines
+pub mod MethodTables
+pub mod Labels
+pub mod DomainUses
+pub mod InterfaceNaming
+pub mod InterfaceScan
+pub mod DomainScan
+pub mod DomainNaming
+pub mod DomainsScan
 pub mod Naming
 pub mod Walking
 pub mod Giving

@@ -6,7 +6,7 @@ use Rattle.std.specs.Cmp.Lexicographic.{pointwise}
 use Rattle.std.proofs.lemmas.Slice.Eq.{slice_eq-Decides}
 use Rattle.std.proofs.lemmas.Bool.Decides.{Decides-eqb}
 use Rattle.rl_defs.specs.Interfaces.{place_of}
-use Rattle.rl_defs.specs.BundleNames.{IsUnknown}
+use Rattle.rl_defs.specs.NameRules.{IsUnknown}
 use Rattle.bundle_names.specs.Tests.{is_given, is_unknown, has_unknown}
 
 pub or_either : (a b : Bool) → IsTrue (a || b) → IsTrue a ⊎ IsTrue b

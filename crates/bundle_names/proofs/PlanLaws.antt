@@ -1,4 +1,5 @@
 -- Rules 3 and 4 in the plan, line by line.
+use Rattle.std.specs.Option.{option_and_then}
 use Rattle.std.proofs.Common.{◌≡◌, ℕ, ◌+◌, Bool, true, false, ◌||◌, List, [], ◌++◌, Option, Some, None, inl, inr, refl, sym, ap, subst, ◌∙◌, arith}
 use Rattle.std.specs.Prelude.{slice_get, IsTrue}
 use Rattle.rl_defs.specs.declared.bundle.Numbered.{Numbered}
@@ -9,7 +10,8 @@ use Rattle.rl_defs.specs.declared.code.DomainText.{DomainText}
 use Rattle.rl_defs.specs.Interfaces.{place_of}
 use Rattle.rl_defs.specs.Domains.{Lines}
 use Rattle.rl_defs.specs.CodeNames.{imports, place_in}
-use Rattle.rl_defs.specs.BundleNames.{GivenTwice, given_by, target_given, bind_given, serial_given, fuel_given, order_given, PlanTwice, NamesUnknown, UnknownImport, IsUnknown, domain_used, load_used, target_used, client_used, domain_names, load_names, target_names, client_names, domain_of_load, lines_of_domain}
+use Rattle.rl_defs.specs.NameRules.{GivenTwice, PlanTwice, NamesUnknown, UnknownImport, IsUnknown, load_used, target_used, client_used}
+use Rattle.rl_defs.specs.BundleNames.{given_by, target_given, bind_given, serial_given, fuel_given, order_given, domains_loaded, domain_names, load_names, target_names, client_names, domain_of_load, lines_of_domain, load_lines}
 use Rattle.rl_defs.specs.BundleOrder.{Rise, numbers_of}
 use Rattle.bundle_names.specs.Tests.{repeats, has_unknown, item_at, lacks}
 use Rattle.bundle_names.specs.PlanNames.{PlanNamesNothing, FailsPlanNames, GivenNames, none_given, given_after, gives_again, known_names, names_nothing, binds_unknown, imports_of_load, imports_of_domain, declared_names, is_loaded}
@@ -178,18 +180,25 @@ true_binds b (plan.Serial load) h = absurd cc
 true_binds b (plan.Fuel n) h = absurd cc
 true_binds b (plan.Order clients) h = absurd cc
 
+-- the domain of a load whose domain has lines
+lines_loaded : (b : Bundle) (load : List ℕ) (lines : Lines) → load_lines b load ≡ Some lines → (domain : List ℕ) × (domain_of_load b load ≡ Some domain) × (lines_of_domain b domain ≡ Some lines)
+lines_loaded b load lines e = by (domain_of_load b load) refl e where
+  by : (o : Option (List ℕ)) → domain_of_load b load ≡ o → option_and_then (lines_of_domain b) o ≡ Some lines → (domain : List ℕ) × (domain_of_load b load ≡ Some domain) × (lines_of_domain b domain ≡ Some lines)
+  by None is e = absurd cc
+  by (Some domain) is e = (domain, is, e)
+
 import_meets : (b : Bundle) (n : ℕ) → UnknownImport b n → Meets given_after (λ g f. binds_unknown (known_names b) f) none_given b.plan.lines n
 import_meets b n u = line_meets given_after (binds_unknown (known_names b)) (BindsUnknown b) (binds_true b) none_given b.plan.lines n (record {
-  place = u.place;
+  place = u.line.place;
   form = plan.Bind u.load u.import u.target;
-  here = u.here;
-  holds = record { domain = u.domain; loaded = u.loaded; lines = u.lines; text = u.text; unknown = u.unknown };
+  here = u.line.here;
+  holds = (let d = lines_loaded b u.load u.lines u.text in record { domain = d.0; loaded = d.1; lines = u.lines; text = d.2; unknown = u.unknown });
 })
 
 meets_import : (b : Bundle) (n : ℕ) → Meets given_after (λ g f. binds_unknown (known_names b) f) none_given b.plan.lines n → UnknownImport b n
 meets_import b n h = from (meets_line given_after (binds_unknown (known_names b)) (BindsUnknown b) (true_binds b) none_given b.plan.lines n h) where
   at : (place : ℕ) (f : PlanLine) → slice_get b.plan.lines place ≡ Some (record { line = n; form = f }) → BindsUnknown b f → UnknownImport b n
-  at place (plan.Bind load import target) e l = record { place = place; load = load; import = import; target = target; here = e; domain = l.domain; loaded = l.loaded; lines = l.lines; text = l.text; unknown = l.unknown }
+  at place (plan.Bind load import target) e l = record { load = load; import = import; target = target; line = record { place = place; here = e }; lines = l.lines; text = ap (option_and_then (lines_of_domain b)) l.loaded ∙ l.text; unknown = l.unknown }
   at place (plan.Load name domain) e l = absurd l
   at place (plan.Shadow name load restarts) e l = absurd l
   at place (plan.Device load blocks) e l = absurd l
@@ -201,7 +210,7 @@ meets_import b n h = from (meets_line given_after (binds_unknown (known_names b)
   from l = at l.place l.form l.here l.holds
 
 abbrev domains_unknown : Bundle → GivenNames → PlanLine → Bool
-domains_unknown b g f = has_unknown (domain_names b) (domain_used f)
+domains_unknown b g f = has_unknown (domain_names b) (domains_loaded f)
 
 abbrev loads_unknown : Bundle → GivenNames → PlanLine → Bool
 loads_unknown b g f = has_unknown (load_names b) (load_used f)
@@ -229,7 +238,7 @@ abbrev pub nothing_named : Bundle → GivenNames → PlanLine → Bool
 nothing_named b g f = names_nothing (known_names b) f
 
 plan_nothing : (b : Bundle) (n : ℕ) → PlanNamesNothing b n → Meets given_after (nothing_named b) none_given b.plan.lines n
-plan_nothing b n (inl u) = or_meets_first given_after (domains_unknown b) (from_loads b) none_given b.plan.lines n (unknown_meets given_after none_given b.plan.lines domain_used (domain_names b) n u)
+plan_nothing b n (inl u) = or_meets_first given_after (domains_unknown b) (from_loads b) none_given b.plan.lines n (unknown_meets given_after none_given b.plan.lines domains_loaded (domain_names b) n u)
 plan_nothing b n (inr (inl u)) = or_meets_second given_after (domains_unknown b) (from_loads b) none_given b.plan.lines n (or_meets_first given_after (loads_unknown b) (from_targets b) none_given b.plan.lines n (unknown_meets given_after none_given b.plan.lines load_used (load_names b) n u))
 plan_nothing b n (inr (inr (inl u))) = or_meets_second given_after (domains_unknown b) (from_loads b) none_given b.plan.lines n (or_meets_second given_after (loads_unknown b) (from_targets b) none_given b.plan.lines n (or_meets_first given_after (targets_unknown b) (from_clients b) none_given b.plan.lines n (unknown_meets given_after none_given b.plan.lines target_used (target_names b) n u)))
 plan_nothing b n (inr (inr (inr (inl u)))) = or_meets_second given_after (domains_unknown b) (from_loads b) none_given b.plan.lines n (or_meets_second given_after (loads_unknown b) (from_targets b) none_given b.plan.lines n (or_meets_second given_after (targets_unknown b) (from_clients b) none_given b.plan.lines n (or_meets_first given_after (clients_unknown b) (imports_unknown b) none_given b.plan.lines n (unknown_meets given_after none_given b.plan.lines client_used (client_names b) n u))))
@@ -237,7 +246,7 @@ plan_nothing b n (inr (inr (inr (inr u)))) = or_meets_second given_after (domain
 
 nothing_plan : (b : Bundle) (n : ℕ) → Meets given_after (nothing_named b) none_given b.plan.lines n → PlanNamesNothing b n
 nothing_plan b n h = elim (meets_or given_after (domains_unknown b) (from_loads b) none_given b.plan.lines n h) [
-  | inl u ↦ inl (meets_unknown given_after none_given b.plan.lines domain_used (domain_names b) n u)
+  | inl u ↦ inl (meets_unknown given_after none_given b.plan.lines domains_loaded (domain_names b) n u)
   | inr r ↦ inr (elim (meets_or given_after (loads_unknown b) (from_targets b) none_given b.plan.lines n r) [
     | inl u ↦ inl (meets_unknown given_after none_given b.plan.lines load_used (load_names b) n u)
     | inr s ↦ inr (elim (meets_or given_after (targets_unknown b) (from_clients b) none_given b.plan.lines n s) [

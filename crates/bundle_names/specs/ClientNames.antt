@@ -1,11 +1,12 @@
 -- Rules 3 and 4 in the clients.
-use Rattle.std.specs.Prelude.{◌≡◌, ℕ, ◌||◌, ◌⊎◌, Bool, List, [], ◌++◌}
+use Rattle.std.specs.Prelude.{◌≡◌, ℕ, ◌||◌, ◌⊎◌, Bool, List, [], ◌++◌, map}
 use Rattle.rl_defs.specs.declared.bundle.ClientLine.{ClientLine}
 use Rattle.rl_defs.specs.declared.bundle.ClientLine.TheVariants as client
 use Rattle.rl_defs.specs.declared.bundle.Bundle.{Bundle}
 use Rattle.rl_defs.specs.Refusals.{Failing}
 use Rattle.rl_defs.specs.Interfaces.{struct_names}
-use Rattle.rl_defs.specs.BundleNames.{client_given, name_given, struct_made, targets_called, names_used, target_names, ClientTwice, ScriptNameTwice, NamesUnknown, UnknownScriptName}
+use Rattle.rl_defs.specs.BundleNames.{client_given, name_given, target_names, given_by, scripts_of}
+use Rattle.rl_defs.specs.NameRules.{GivenTwice, GivenTwiceInOne, struct_made, targets_called, names_used, NamesUnknown, UnknownScriptName}
 use Rattle.bundle_names.specs.declared.clients.Scripts.{Scripts}
 use Rattle.bundle_names.specs.declared.clients.Usable.{Usable}
 use Rattle.bundle_names.specs.Tests.{repeats, has_unknown}
@@ -19,7 +20,7 @@ ClientNamesNothing b n =
 
 -- which of the rules 3 and 4 fail at which lines of the clients
 abbrev pub FailsClientNames : Bundle → Failing
-FailsClientNames b n rule = ((rule ≡ 3) × (ClientTwice b n ⊎ ScriptNameTwice b n)) ⊎ ((rule ≡ 4) × ClientNamesNothing b n)
+FailsClientNames b n rule = ((rule ≡ 3) × (GivenTwice (given_by client_given b.clients.lines) n ⊎ GivenTwiceInOne (map (given_by name_given) (scripts_of b.clients.lines)) n)) ⊎ ((rule ≡ 4) × ClientNamesNothing b n)
 
 abbrev pub no_scripts : Scripts
 no_scripts = record { clients = []; bound = [] }

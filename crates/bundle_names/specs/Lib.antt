@@ -1,3 +1,6 @@
+pub mod Scopes
+pub mod InterfaceLines
+pub mod DomainNames
 pub mod Tests
 pub mod PlanNames
 pub mod GivenSoFar

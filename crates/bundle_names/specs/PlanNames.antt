@@ -8,14 +8,15 @@ use Rattle.rl_defs.specs.declared.code.DomainText.{DomainText}
 use Rattle.rl_defs.specs.Refusals.{Failing}
 use Rattle.rl_defs.specs.Interfaces.{place_of}
 use Rattle.rl_defs.specs.CodeNames.{Declared, imports}
-use Rattle.rl_defs.specs.BundleNames.{given_by, names_of, target_given, bind_given, serial_given, fuel_given, order_given, domain_used, load_used, target_used, client_used, domains_loaded, domain_names, load_names, target_names, client_names, PlanTwice, NamesUnknown, UnknownImport}
+use Rattle.rl_defs.specs.BundleNames.{given_by, names_of, target_given, bind_given, serial_given, fuel_given, order_given, domains_loaded, domains_loaded, domain_names, load_names, target_names, client_names}
+use Rattle.rl_defs.specs.NameRules.{load_used, target_used, client_used, PlanTwice, NamesUnknown, UnknownImport}
 use Rattle.bundle_names.specs.declared.known.Known.{Known}
 use Rattle.bundle_names.specs.Tests.{repeats, has_unknown, item_at, lacks}
 
 -- rule 4: a line of the plan names what nothing declares
 abbrev pub PlanNamesNothing : Bundle → ℕ → Type 0
 PlanNamesNothing b n =
-    NamesUnknown b.plan.lines domain_used (domain_names b) n
+    NamesUnknown b.plan.lines domains_loaded (domain_names b) n
     ⊎ (NamesUnknown b.plan.lines load_used (load_names b) n
     ⊎ (NamesUnknown b.plan.lines target_used (target_names b) n
     ⊎ (NamesUnknown b.plan.lines client_used (client_names b) n
@@ -98,7 +99,7 @@ binds_unknown k _ = false
 -- a line of the plan names what nothing declares
 abbrev pub names_nothing : Known → PlanLine → Bool
 names_nothing k form =
-    has_unknown k.domains (domain_used form)
+    has_unknown k.domains (domains_loaded form)
     || (has_unknown k.loads (load_used form)
     || (has_unknown k.targets (target_used form)
     || (has_unknown k.clients (client_used form)

@@ -1,12 +1,12 @@
 //! Rules 3 and 4 in a whole bundle.
 ghost use Rattle.rl_defs.specs.Refusals.{Answers};
 ghost use Rattle.rl_defs.specs.BundleOrder.{IsOrdered};
-ghost use Rattle.rl_defs.specs.BundleNames.{FailsBundleNames};
+ghost use Rattle.rl_defs.specs.NameRules.{FailsBundleNames};
 
 use crate::clients::check_client_names;
+use crate::domains::check_domains;
+use crate::interfaces::check_interfaces;
 use crate::plan::check_plan_names;
-use declared_names::domains::check_domains;
-use declared_names::interfaces::check_interfaces;
 use rl_defs::LoadFault;
 use rl_defs::bundle::Bundle;
 use std::alloc::Global;

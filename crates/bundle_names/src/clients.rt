@@ -3,18 +3,18 @@ ghost use Rattle.std.specs.Prelude.{◌≡◌, ◌++◌, IfOk, OnOk};
 ghost use Rattle.std.specs.List.{flat_map, list_any};
 ghost use Rattle.rl_defs.specs.Refusals.{Answers};
 ghost use Rattle.rl_defs.specs.BundleOrder.{IsOrdered};
-ghost use Rattle.rl_defs.specs.BundleNames.{target_passed, name_passed};
+ghost use Rattle.rl_defs.specs.NameRules.{target_passed, name_passed};
 ghost use Rattle.bundle_names.specs.Tests.{repeats, has_unknown};
 ghost use Rattle.bundle_names.specs.ClientNames.{FailsClientNames, no_scripts, usable_names, script_after, names_again, uses_nothing};
 
+use crate::interfaces::struct_names;
 use crate::known::{add, is_unknown, target_names};
-use crate::plan::{refused, rule_of};
-use declared_names::interfaces::struct_names;
+use crate::plan::rule_of;
 use name_tables::names::Names;
+use rl_defs::LoadFault;
 use rl_defs::bundle::{Bundle, ClientLine, ScriptArgText};
 use rl_defs::name::Name;
-use rl_defs::{LoadFault, Memory};
-use std::alloc::Global;
+use std::alloc::{AllocError, Global};
 
 /// The names that a client's lines may use.
 #[derive(Drop)]
@@ -36,23 +36,19 @@ pub fn check_client_names(alloc: Global, bundle: &Bundle) -> Result<(), LoadFaul
     requires ordered { IsOrdered bundle.now }
     ensures { Answers (FailsClientNames bundle.now) (λ _. Unit {0}) result }
 {
-    let Ok(usable) = usable_names(alloc, bundle) else {
-        return Err(LoadFault::Memory);
-    };
+    let usable = usable_names(alloc, bundle)?;
     let mut scripts = no_scripts(alloc);
     'lines: for line in bundle.clients.lines.as_slice() {
         let nothing = uses_nothing(&usable, &scripts, &line.form);
-        let Ok(again) = take(&mut scripts, &line.form) else {
-            return Err(LoadFault::Memory);
-        };
+        let again = take(&mut scripts, &line.form)?;
         if let Some(rule) = rule_of(again, nothing) {
-            return Err(refused(line.line, rule));
+            return Err(LoadFault::refused(line.line, rule));
         }
     }
     Ok(())
 }
 
-pub(crate) fn usable_names(alloc: Global, bundle: &Bundle) -> Result<Usable, Memory>
+pub(crate) fn usable_names(alloc: Global, bundle: &Bundle) -> Result<Usable, AllocError>
     ensures { IfOk result (λ u. u ≡ usable_names bundle.now) }
 {
     let structs = struct_names(alloc, bundle.idl.lines.as_slice())?;
@@ -70,7 +66,7 @@ pub(crate) fn no_scripts(alloc: Global) -> Scripts
 }
 
 // Binds the names of a line, and says whether one of them was bound before.
-fn bind_all(bound: &mut Names, names: &[Name]) -> Result<bool, Memory>
+fn bind_all(bound: &mut Names, names: &[Name]) -> Result<bool, AllocError>
     ensures again { IfOk result (λ again. again ≡ repeats bound.old names.now) }
     ensures bound { OnOk result (bound.new ≡ bound.old ++ names.now) }
 {
@@ -83,7 +79,7 @@ fn bind_all(bound: &mut Names, names: &[Name]) -> Result<bool, Memory>
 }
 
 // Takes what a line of the clients gives, and says whether it was given before.
-pub(crate) fn take(scripts: &mut Scripts, form: &ClientLine) -> Result<bool, Memory>
+pub(crate) fn take(scripts: &mut Scripts, form: &ClientLine) -> Result<bool, AllocError>
     ensures again { IfOk result (λ again. again ≡ names_again scripts.old form.now) }
     ensures after { OnOk result (scripts.new ≡ script_after scripts.old form.now) }
 {

@@ -8,10 +8,9 @@ ghost use Rattle.bundle_names.specs.GivenSoFar.{AreGiven, same_pair};
 use crate::known::add;
 use indexmap::IndexSet;
 use name_tables::names::Names;
-use rl_defs::Memory;
 use rl_defs::bundle::PlanLine;
 use rl_defs::name::Name;
-use std::alloc::Global;
+use std::alloc::{AllocError, Global};
 
 /// What lines of the plan gave so far. No name has a dot in it, so a bound import is kept as the names before and behind the dot.
 #[derive(Drop)]
@@ -24,7 +23,11 @@ pub struct Given {
 }
 
 // Adds a pair, and says whether it was there.
-fn add_pair(pairs: &mut IndexSet<(Name, Name)>, load: &Name, import: &Name) -> Result<bool, Memory>
+fn add_pair(
+    pairs: &mut IndexSet<(Name, Name)>,
+    load: &Name,
+    import: &Name,
+) -> Result<bool, AllocError>
     ensures again { IfOk result (λ again. again ≡ contains same_pair pairs.old (load.now, import.now)) }
     ensures added { OnOk result (Updates same_pair pairs.old pairs.new (load.now, import.now) true) }
     ensures named { IsTrue (is_name load.now) }
@@ -32,7 +35,7 @@ fn add_pair(pairs: &mut IndexSet<(Name, Name)>, load: &Name, import: &Name) -> R
     let _ = load.bytes();
     match pairs.insert((*load, *import)) {
         Ok(new) => Ok(!new),
-        Err(_) => Err(Memory),
+        Err(_) => Err(AllocError),
     }
 }
 
@@ -51,7 +54,7 @@ impl Given {
     }
 
     /// Takes what a line gives, and says whether it was given before.
-    pub fn take(&mut self, form: &PlanLine) -> Result<bool, Memory>
+    pub fn take(&mut self, form: &PlanLine) -> Result<bool, AllocError>
         ensures again { IfOk result (λ again. (names : GivenNames) → AreGiven self.old names → again ≡ gives_again names form.now) }
         ensures given { OnOk result ((names : GivenNames) → AreGiven self.old names → AreGiven self.new (given_after names form.now)) }
     {

@@ -8,20 +8,19 @@ ghost use Rattle.bundle_names.specs.Tests.{is_given, is_unknown, lacks, has_unkn
 ghost use Rattle.bundle_names.specs.PlanNames.{declared_names, known_names, imports_of_load, is_place, is_loaded, imports_from};
 
 use name_tables::names::Names;
-use rl_defs::Memory;
 use rl_defs::bundle::{Bundle, ClientLine, Numbered, PlanLine};
 use rl_defs::code::{DomainLine, DomainText};
 use rl_defs::list::List;
 use rl_defs::name::Name;
-use std::alloc::Global;
+use std::alloc::{AllocError, Global};
 
 /// Adds a name, and says whether it was there. A table counts its names in 32 bits; more are more than memory has room for.
-pub fn add(names: &mut Names, name: &Name) -> Result<bool, Memory>
+pub fn add(names: &mut Names, name: &Name) -> Result<bool, AllocError>
     ensures added { OnOk result (names.new ≡ names.old ++ name.now ∷ []) }
     ensures again { IfOk result (λ again. again ≡ is_given names.old name.now) }
 {
     if names.len() == u32::MAX {
-        return Err(Memory);
+        return Err(AllocError);
     }
     Ok(names.add(name)?.is_some())
 }
@@ -40,7 +39,7 @@ pub fn has_unknown(declared: &Names, used: &[Name]) -> bool
     used.iter().any(|name| is_unknown(declared, name))
 }
 
-fn put_domain(names: &mut Names, form: &DomainLine) -> Result<(), Memory>
+fn put_domain(names: &mut Names, form: &DomainLine) -> Result<(), AllocError>
     ensures { OnOk result (names.new ≡ names.old ++ domain_given form.now) }
 {
     if let DomainLine::Domain(name, _) = form {
@@ -49,7 +48,7 @@ fn put_domain(names: &mut Names, form: &DomainLine) -> Result<(), Memory>
     Ok(())
 }
 
-fn put_import(names: &mut Names, form: &DomainLine) -> Result<(), Memory>
+fn put_import(names: &mut Names, form: &DomainLine) -> Result<(), AllocError>
     ensures { OnOk result (names.new ≡ names.old ++ import_given form.now) }
 {
     if let DomainLine::Import(name, _) = form {
@@ -58,7 +57,7 @@ fn put_import(names: &mut Names, form: &DomainLine) -> Result<(), Memory>
     Ok(())
 }
 
-fn put_load(names: &mut Names, form: &PlanLine) -> Result<(), Memory>
+fn put_load(names: &mut Names, form: &PlanLine) -> Result<(), AllocError>
     ensures { OnOk result (names.new ≡ names.old ++ load_given form.now) }
 {
     if let PlanLine::Load { name, .. } = form {
@@ -67,7 +66,7 @@ fn put_load(names: &mut Names, form: &PlanLine) -> Result<(), Memory>
     Ok(())
 }
 
-fn put_loaded(names: &mut List<Name>, form: &PlanLine) -> Result<(), Memory>
+fn put_loaded(names: &mut List<Name>, form: &PlanLine) -> Result<(), AllocError>
     ensures { OnOk result (names.new ≡ names.old ++ domains_loaded form.now) }
 {
     if let PlanLine::Load { domain, .. } = form {
@@ -76,7 +75,7 @@ fn put_loaded(names: &mut List<Name>, form: &PlanLine) -> Result<(), Memory>
     Ok(())
 }
 
-fn put_target(names: &mut Names, form: &PlanLine) -> Result<(), Memory>
+fn put_target(names: &mut Names, form: &PlanLine) -> Result<(), AllocError>
     ensures { OnOk result (names.new ≡ names.old ++ target_given form.now) }
 {
     if let PlanLine::Load { name, .. } | PlanLine::Shadow { name, .. } = form {
@@ -85,7 +84,7 @@ fn put_target(names: &mut Names, form: &PlanLine) -> Result<(), Memory>
     Ok(())
 }
 
-fn put_client(names: &mut Names, form: &ClientLine) -> Result<(), Memory>
+fn put_client(names: &mut Names, form: &ClientLine) -> Result<(), AllocError>
     ensures { OnOk result (names.new ≡ names.old ++ client_given form.now) }
 {
     if let ClientLine::Client(name) = form {
@@ -95,7 +94,7 @@ fn put_client(names: &mut Names, form: &ClientLine) -> Result<(), Memory>
 }
 
 // Adds the names of the domains that begin at these lines.
-fn add_domains(names: &mut Names, lines: &[Numbered<DomainLine>]) -> Result<(), Memory>
+fn add_domains(names: &mut Names, lines: &[Numbered<DomainLine>]) -> Result<(), AllocError>
     ensures { OnOk result (names.new ≡ names.old ++ names_of (given_by domain_given lines.now)) }
 {
     'lines: for line in lines {
@@ -104,7 +103,7 @@ fn add_domains(names: &mut Names, lines: &[Numbered<DomainLine>]) -> Result<(), 
     Ok(())
 }
 
-fn domain_names(alloc: Global, domains: &[DomainText]) -> Result<Names, Memory>
+fn domain_names(alloc: Global, domains: &[DomainText]) -> Result<Names, AllocError>
     ensures { IfOk result (λ names. names ≡ names_of (given_by domain_given (flat_map (λ d. d.lines) domains.now))) }
 {
     let mut names = Names::with_room(alloc, domains.len());
@@ -114,7 +113,7 @@ fn domain_names(alloc: Global, domains: &[DomainText]) -> Result<Names, Memory>
     Ok(names)
 }
 
-fn imports_of(alloc: Global, lines: &[Numbered<DomainLine>]) -> Result<Names, Memory>
+fn imports_of(alloc: Global, lines: &[Numbered<DomainLine>]) -> Result<Names, AllocError>
     ensures { IfOk result (λ names. names ≡ declared_names (imports lines.now)) }
 {
     let mut names = Names::new(alloc);
@@ -143,12 +142,12 @@ fn loaded_domains(
     domains: &Names,
     count: usize,
     loaded: &[Name],
-) -> Result<Vec<bool>, Memory>
+) -> Result<Vec<bool>, AllocError>
     ensures count { IfOk result (λ marks. length marks.items ≡ count) }
     ensures marks { IfOk result (λ marks. (number : ℕ) → number < count → get_or marks.items number false ≡ is_loaded loaded.now domains.now number) }
 {
     let Ok(mut marks) = vec![in alloc; false; count] else {
-        return Err(Memory);
+        return Err(AllocError);
     };
     'loads: for name in loaded {
         mark(&mut marks, domains.place(name));
@@ -157,7 +156,7 @@ fn loaded_domains(
 }
 
 // The imports of a domain that is kept, and none of another.
-fn imports_kept(alloc: Global, is_kept: bool, domain: &DomainText) -> Result<Names, Memory>
+fn imports_kept(alloc: Global, is_kept: bool, domain: &DomainText) -> Result<Names, AllocError>
     ensures { IfOk result (λ names. names ≡ (if is_kept then declared_names (imports domain.now.lines) else [])) }
 {
     if is_kept {
@@ -172,7 +171,7 @@ fn imports_by_domain(
     alloc: Global,
     domains: &[DomainText],
     marks: &[bool],
-) -> Result<List<Names>, Memory>
+) -> Result<List<Names>, AllocError>
     requires { length marks.now ≡ length domains.now }
     ensures { IfOk result (λ all. all ≡ imports_from (λ number. get_or marks.now number false) 0 domains.now) }
 {
@@ -192,7 +191,7 @@ fn imports_of_loaded(
     bundle: &Bundle,
     domains: &Names,
     loaded: &[Name],
-) -> Result<List<Names>, Memory>
+) -> Result<List<Names>, AllocError>
     requires domains { domains.now ≡ domain_names bundle.now }
     requires loaded { loaded.now ≡ names_of (given_by domains_loaded bundle.now.plan.lines) }
     ensures { IfOk result (λ all. all ≡ (known_names bundle.now).imports) }
@@ -202,7 +201,7 @@ fn imports_of_loaded(
     imports_by_domain(alloc, texts, marks.as_slice())
 }
 
-fn load_names(alloc: Global, lines: &[Numbered<PlanLine>]) -> Result<Names, Memory>
+fn load_names(alloc: Global, lines: &[Numbered<PlanLine>]) -> Result<Names, AllocError>
     ensures { IfOk result (λ names. names ≡ names_of (given_by load_given lines.now)) }
 {
     let mut names = Names::new(alloc);
@@ -212,7 +211,7 @@ fn load_names(alloc: Global, lines: &[Numbered<PlanLine>]) -> Result<Names, Memo
     Ok(names)
 }
 
-fn domains_loaded(alloc: Global, lines: &[Numbered<PlanLine>]) -> Result<List<Name>, Memory>
+fn domains_loaded(alloc: Global, lines: &[Numbered<PlanLine>]) -> Result<List<Name>, AllocError>
     ensures { IfOk result (λ names. names ≡ names_of (given_by domains_loaded lines.now)) }
 {
     let mut names = List::new(alloc);
@@ -223,7 +222,7 @@ fn domains_loaded(alloc: Global, lines: &[Numbered<PlanLine>]) -> Result<List<Na
 }
 
 /// The names of the loads and shadows.
-pub fn target_names(alloc: Global, lines: &[Numbered<PlanLine>]) -> Result<Names, Memory>
+pub fn target_names(alloc: Global, lines: &[Numbered<PlanLine>]) -> Result<Names, AllocError>
     ensures { IfOk result (λ names. names ≡ names_of (given_by target_given lines.now)) }
 {
     let mut names = Names::new(alloc);
@@ -233,7 +232,7 @@ pub fn target_names(alloc: Global, lines: &[Numbered<PlanLine>]) -> Result<Names
     Ok(names)
 }
 
-fn client_names(alloc: Global, lines: &[Numbered<ClientLine>]) -> Result<Names, Memory>
+fn client_names(alloc: Global, lines: &[Numbered<ClientLine>]) -> Result<Names, AllocError>
     ensures { IfOk result (λ names. names ≡ names_of (given_by client_given lines.now)) }
 {
     let mut names = Names::new(alloc);
@@ -257,7 +256,7 @@ pub struct Known {
 
 impl Known {
     /// The names of a bundle.
-    pub fn new(alloc: Global, bundle: &Bundle) -> Result<Known, Memory>
+    pub fn new(alloc: Global, bundle: &Bundle) -> Result<Known, AllocError>
         ensures { IfOk result (λ k. k ≡ known_names bundle.now) }
     {
         let plan = bundle.plan.lines.as_slice();

@@ -8,8 +8,8 @@ ghost use Rattle.bundle_names.specs.PlanNames.{FailsPlanNames, names_nothing};
 
 use crate::given::Given;
 use crate::known::{Known, has_unknown, is_unknown};
+use rl_defs::LoadFault;
 use rl_defs::bundle::{Bundle, PlanLine};
-use rl_defs::{LoadFault, Refusal};
 use std::alloc::Global;
 
 /// Checks the names in the plan: the first line that gives a load's, a shadow's or another name of the plan again (rule 3), or that names
@@ -18,16 +18,12 @@ pub fn check_plan_names(alloc: Global, bundle: &Bundle) -> Result<(), LoadFault>
     requires ordered { IsOrdered bundle.now }
     ensures { Answers (FailsPlanNames bundle.now) (λ _. Unit {0}) result }
 {
-    let Ok(known) = Known::new(alloc, bundle) else {
-        return Err(LoadFault::Memory);
-    };
+    let known = Known::new(alloc, bundle)?;
     let mut given = Given::new(alloc);
     'lines: for line in bundle.plan.lines.as_slice() {
-        let Ok(again) = given.take(&line.form) else {
-            return Err(LoadFault::Memory);
-        };
+        let again = given.take(&line.form)?;
         if let Some(rule) = rule_of(again, names_nothing(&known, &line.form)) {
-            return Err(refused(line.line, rule));
+            return Err(LoadFault::refused(line.line, rule));
         }
     }
     Ok(())
@@ -44,13 +40,6 @@ pub(crate) fn rule_of(again: bool, nothing: bool) -> Option<u8>
         return Some(4);
     }
     None
-}
-
-// The refusal of a line by a rule.
-pub(crate) fn refused(line: u32, rule: u8) -> LoadFault
-    ensures { result ≡ Refused (record { line = line; rule = rule }) }
-{
-    LoadFault::Refused(Refusal { line, rule })
 }
 
 // Whether a line of the plan names what nothing declares.

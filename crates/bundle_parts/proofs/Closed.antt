@@ -68,7 +68,7 @@ no_block [] = refl
 no_block (form ∷ forms) = no_block forms
 
 -- a line that begins a domain stands outside any block
-begins_outside : (block : domains.Block) (form : DomainLine) → begins_domain form ≡ true → (next_block block form ≡ None) ⊎ (block ≡ domains.Outside)
+begins_outside : (block : domains.DomainBlock) (form : DomainLine) → begins_domain form ≡ true → (next_block block form ≡ None) ⊎ (block ≡ domains.Outside)
 begins_outside domains.Outside form e = inr refl
 begins_outside (domains.Declares words slots native) (line.Domain name has) e = inl refl
 begins_outside domains.BehindFunction (line.Domain name has) e = inl refl
@@ -76,25 +76,25 @@ begins_outside domains.InFunction (line.Domain name has) e = inl refl
 begins_outside domains.BehindEnd (line.Domain name has) e = inl refl
 begins_outside block form e = absurd cc
 
-outside_at : (block : domains.Block) (l : Numbered DomainLine) (ls : Lines) → begins_domain l.form ≡ true → fold (next_open domain_part) (Some block) (forms_of (l ∷ ls)) ≡ Some domains.Outside → block ≡ domains.Outside
+outside_at : (block : domains.DomainBlock) (l : Numbered DomainLine) (ls : Lines) → begins_domain l.form ≡ true → fold (next_open domain_part) (Some block) (forms_of (l ∷ ls)) ≡ Some domains.Outside → block ≡ domains.Outside
 outside_at block l ls begins e = elim (begins_outside block l.form begins) [
-  | inl barred ↦ (let f = sym (ap (λ (o : Option domains.Block). fold (next_open domain_part) o (forms_of ls)) barred) ∙ e in let g = sym (no_block (forms_of ls)) ∙ f in absurd cc)
+  | inl barred ↦ (let f = sym (ap (λ (o : Option domains.DomainBlock). fold (next_open domain_part) o (forms_of ls)) barred) ∙ e in let g = sym (no_block (forms_of ls)) ∙ f in absurd cc)
   | inr is ↦ is
 ]
 
 -- the block behind a line that is followed by others up to the end of a domain
-next_is : (ls : Lines) (o : Option domains.Block) → fold (next_open domain_part) o (forms_of ls) ≡ Some domains.Outside → (next : domains.Block) × (o ≡ Some next)
+next_is : (ls : Lines) (o : Option domains.DomainBlock) → fold (next_open domain_part) o (forms_of ls) ≡ Some domains.Outside → (next : domains.DomainBlock) × (o ≡ Some next)
 next_is ls None e = absurd (let f = sym (no_block (forms_of ls)) ∙ e in cc)
 next_is ls (Some next) e = (next, refl)
 
-rest_step : (block : domains.Block) (l : Numbered DomainLine) (ls : Lines) (b : Bool) → begins_domain l.form ≡ b → fold (next_open domain_part) (Some block) (forms_of (l ∷ ls)) ≡ Some domains.Outside → ((next : domains.Block) → fold (next_open domain_part) (Some next) (forms_of ls) ≡ Some domains.Outside → fold (next_open domain_part) (Some next) (forms_of (rest_of_domain ls)) ≡ Some domains.Outside) → fold (next_open domain_part) (Some block) (forms_of (rest_of_domain (l ∷ ls))) ≡ Some domains.Outside
-rest_step block l ls true begins e on = rw begins (ap (λ (b : domains.Block). Some b) (outside_at block l ls begins e))
+rest_step : (block : domains.DomainBlock) (l : Numbered DomainLine) (ls : Lines) (b : Bool) → begins_domain l.form ≡ b → fold (next_open domain_part) (Some block) (forms_of (l ∷ ls)) ≡ Some domains.Outside → ((next : domains.DomainBlock) → fold (next_open domain_part) (Some next) (forms_of ls) ≡ Some domains.Outside → fold (next_open domain_part) (Some next) (forms_of (rest_of_domain ls)) ≡ Some domains.Outside) → fold (next_open domain_part) (Some block) (forms_of (rest_of_domain (l ∷ ls))) ≡ Some domains.Outside
+rest_step block l ls true begins e on = rw begins (ap (λ (b : domains.DomainBlock). Some b) (outside_at block l ls begins e))
 rest_step block l ls false goes_on e on =
     let n = next_is ls (next_block block l.form) e in
-    let f : fold (next_open domain_part) (Some n.0) (forms_of ls) ≡ Some domains.Outside = sym (ap (λ (o : Option domains.Block). fold (next_open domain_part) o (forms_of ls)) n.1) ∙ e in
-    rw goes_on (ap (λ (o : Option domains.Block). fold (next_open domain_part) o (forms_of (rest_of_domain ls))) n.1 ∙ on n.0 f)
+    let f : fold (next_open domain_part) (Some n.0) (forms_of ls) ≡ Some domains.Outside = sym (ap (λ (o : Option domains.DomainBlock). fold (next_open domain_part) o (forms_of ls)) n.1) ∙ e in
+    rw goes_on (ap (λ (o : Option domains.DomainBlock). fold (next_open domain_part) o (forms_of (rest_of_domain ls))) n.1 ∙ on n.0 f)
 
-rest_closed : (block : domains.Block) (ls : Lines) → fold (next_open domain_part) (Some block) (forms_of ls) ≡ Some domains.Outside → fold (next_open domain_part) (Some block) (forms_of (rest_of_domain ls)) ≡ Some domains.Outside
+rest_closed : (block : domains.DomainBlock) (ls : Lines) → fold (next_open domain_part) (Some block) (forms_of ls) ≡ Some domains.Outside → fold (next_open domain_part) (Some block) (forms_of (rest_of_domain ls)) ≡ Some domains.Outside
 rest_closed block [] e = e
 rest_closed block (l ∷ ls) e = rest_step block l ls (begins_domain l.form) refl e (λ next f. rest_closed next ls f)
 
@@ -113,20 +113,20 @@ all_more : {X : Type 0} (P : X → Type 0) (x : X) (xs : List X) → P x → All
 all_more P x xs h more zero d lt = h
 all_more P x xs h more (suc k) d lt = more k d (omega (arith, lt))
 
-domains_step : (block : domains.Block) (l : Numbered DomainLine) (ls : Lines) (b : Bool) → begins_domain l.form ≡ b → fold (next_open domain_part) (Some block) (forms_of (l ∷ ls)) ≡ Some domains.Outside → ((next : domains.Block) → fold (next_open domain_part) (Some next) (forms_of ls) ≡ Some domains.Outside → All IsDomainText (domains_of ls)) → All IsDomainText (domains_of (l ∷ ls))
+domains_step : (block : domains.DomainBlock) (l : Numbered DomainLine) (ls : Lines) (b : Bool) → begins_domain l.form ≡ b → fold (next_open domain_part) (Some block) (forms_of (l ∷ ls)) ≡ Some domains.Outside → ((next : domains.DomainBlock) → fold (next_open domain_part) (Some next) (forms_of ls) ≡ Some domains.Outside → All IsDomainText (domains_of ls)) → All IsDomainText (domains_of (l ∷ ls))
 domains_step block l ls true begins e on =
     let n = next_is ls (next_block block l.form) e in
-    let later : fold (next_open domain_part) (Some n.0) (forms_of ls) ≡ Some domains.Outside = sym (ap (λ (o : Option domains.Block). fold (next_open domain_part) o (forms_of ls)) n.1) ∙ e in
+    let later : fold (next_open domain_part) (Some n.0) (forms_of ls) ≡ Some domains.Outside = sym (ap (λ (o : Option domains.DomainBlock). fold (next_open domain_part) o (forms_of ls)) n.1) ∙ e in
     let out : block ≡ domains.Outside = outside_at block l ls begins e in
-    let whole : fold (next_open domain_part) (Some block) (forms_of (l ∷ rest_of_domain ls)) ≡ Some domains.Outside = ap (λ (o : Option domains.Block). fold (next_open domain_part) o (forms_of (rest_of_domain ls))) n.1 ∙ rest_closed n.0 ls later in
-    let closed : block_behind domain_part (forms_of (l ∷ rest_of_domain ls)) ≡ Some domains.Outside = subst (λ (b : domains.Block). fold (next_open domain_part) (Some b) (forms_of (l ∷ rest_of_domain ls)) ≡ Some domains.Outside) out whole in
+    let whole : fold (next_open domain_part) (Some block) (forms_of (l ∷ rest_of_domain ls)) ≡ Some domains.Outside = ap (λ (o : Option domains.DomainBlock). fold (next_open domain_part) o (forms_of (rest_of_domain ls))) n.1 ∙ rest_closed n.0 ls later in
+    let closed : block_behind domain_part (forms_of (l ∷ rest_of_domain ls)) ≡ Some domains.Outside = subst (λ (b : domains.DomainBlock). fold (next_open domain_part) (Some b) (forms_of (l ∷ rest_of_domain ls)) ≡ Some domains.Outside) out whole in
     rw begins (all_more IsDomainText (record { lines = l ∷ rest_of_domain ls }) (domains_of ls) (begins, rest_once ls, closed) (on n.0 later))
 domains_step block l ls false goes_on e on =
     let n = next_is ls (next_block block l.form) e in
-    let later : fold (next_open domain_part) (Some n.0) (forms_of ls) ≡ Some domains.Outside = sym (ap (λ (o : Option domains.Block). fold (next_open domain_part) o (forms_of ls)) n.1) ∙ e in
+    let later : fold (next_open domain_part) (Some n.0) (forms_of ls) ≡ Some domains.Outside = sym (ap (λ (o : Option domains.DomainBlock). fold (next_open domain_part) o (forms_of ls)) n.1) ∙ e in
     rw goes_on (on n.0 later)
 
 -- each domain of a part behind which no block is open is one domain
-pub one_domains : (block : domains.Block) (ls : Lines) → fold (next_open domain_part) (Some block) (forms_of ls) ≡ Some domains.Outside → All IsDomainText (domains_of ls)
+pub one_domains : (block : domains.DomainBlock) (ls : Lines) → fold (next_open domain_part) (Some block) (forms_of ls) ≡ Some domains.Outside → All IsDomainText (domains_of ls)
 one_domains block [] e = all_none IsDomainText
 one_domains block (l ∷ ls) e = domains_step block l ls (begins_domain l.form) refl e (λ next f. one_domains next ls f)

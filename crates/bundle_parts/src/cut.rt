@@ -4,10 +4,10 @@ ghost use Rattle.rl_text.specs.Places.{text_of, AreNumbered};
 ghost use Rattle.bundle_parts.specs.Cuts.{StandsAt, IsNext, Reaches, IsReached, is_of, Cuts};
 
 use crate::header::{Header, Sight, header_in, look};
-use rl_defs::{LoadFault, Memory};
+use rl_defs::LoadFault;
 use rl_text::lexeme::Lexeme;
 use rl_text::line::Line;
-use rl_text::token::refused;
+use std::alloc::AllocError;
 
 /// Behind how many lines the next header stands; without a header, the end of the lines.
 #[derive(Clone, Copy, Debug)]
@@ -27,16 +27,16 @@ pub(crate) fn first_header(
 {
     let mut place = 0;
     'lines: for line in lines {
-        match look(buffer, bytes, line) {
-            Ok(Sight::Blank) => {}
-            Ok(Sight::Header(header)) => {
+        let sight = look(buffer, bytes, line)?;
+        match sight {
+            Sight::Blank => {}
+            Sight::Header(header) => {
                 return Ok(At {
                     place,
                     header: Some(header),
                 });
             }
-            Ok(Sight::Other) => return Err(refused(line.number, 2)),
-            Err(fault) => return Err(fault),
+            Sight::Other => return Err(LoadFault::refused(line.number, 2)),
         }
         place += 1;
     }
@@ -52,22 +52,22 @@ fn next_header(
     bytes: &[u8],
     lines: &[Line],
     from: usize,
-) -> Result<At, Memory>
+) -> Result<At, AllocError>
     requires numbered { AreNumbered bytes.now 1 lines.now }
     requires inside { from ≤ length lines.now }
     ensures { IfOk result (λ at. IsNext (map (text_of bytes.now) lines.now) from at) }
 {
     let mut place = from;
     'lines: while place < lines.len() {
-        match header_in(buffer, bytes, &lines[place]) {
-            Ok(Some(header)) => {
+        let found = header_in(buffer, bytes, &lines[place])?;
+        match found {
+            Some(header) => {
                 return Ok(At {
                     place,
                     header: Some(header),
                 });
             }
-            Ok(None) => {}
-            Err(_) => return Err(Memory),
+            None => {}
         }
         place += 1;
     }
@@ -106,7 +106,7 @@ pub(crate) fn part<'a>(
     lines: &'a [Line],
     at: &mut At,
     header: Header,
-) -> Result<&'a [Line], Memory>
+) -> Result<&'a [Line], AllocError>
     requires numbered { AreNumbered bytes.now 1 lines.now }
     requires few { length lines.now ≤ 1048576 }
     requires stands { StandsAt (map (text_of bytes.now) lines.now) at.old.place at.old.header }

@@ -1,5 +1,5 @@
 //! The headers of a bundle's parts.
-ghost use Rattle.std.specs.Prelude.{◌≡◌, ℕ, List, [], ◌==◌, not, length, take, drop, IfOk, slice_get, Some};
+ghost use Rattle.std.specs.Prelude.{◌≡◌, ◌≤◌, ℕ, List, [], ◌==◌, not, length, take, drop, IfOk, slice_get, Some};
 ghost use Rattle.std.specs.List.{prefix_len};
 ghost use Rattle.rl_defs.specs.Tokens.{is_blank};
 ghost use Rattle.rl_defs.specs.BundleParts.{header_place};
@@ -7,11 +7,12 @@ ghost use Rattle.rl_text.specs.Places.{text_of, IsWithin};
 ghost use Rattle.rl_text.specs.Whole.{GivesWhole};
 ghost use Rattle.bundle_parts.specs.Headers.{header_of, header_named, header_at, Sees, IsHeaderOrNone, begins_with_bracket};
 
+use rl_defs::LoadFault;
 use rl_defs::lexeme::Mark;
-use rl_defs::{LoadFault, Memory};
 use rl_text::cursor::{Cursor, Stop};
 use rl_text::lexeme::{Lexeme, lexemes};
 use rl_text::line::Line;
+use std::alloc::AllocError;
 
 /// A header, by its part.
 #[derive(Clone, Copy, Debug)]
@@ -84,10 +85,7 @@ pub(crate) fn look(buffer: &mut Vec<Lexeme>, bytes: &[u8], line: &Line) -> Resul
     requires { IsWithin bytes.now line.now }
     ensures { Sees line.now.number (text_of bytes.now line.now) result }
 {
-    match lexemes(buffer, bytes, line) {
-        Ok(()) => {}
-        Err(fault) => return Err(fault),
-    }
+    lexemes(buffer, bytes, line)?;
     let all = buffer.as_slice();
     if all.is_empty() {
         return Ok(Sight::Blank);
@@ -100,17 +98,18 @@ pub(crate) fn look(buffer: &mut Vec<Lexeme>, bytes: &[u8], line: &Line) -> Resul
     }
 }
 
-// How many blanks and TABs come first.
-fn blanks(text: &[u8]) -> usize
-    ensures { result ≡ prefix_len is_blank text.now }
+/// How many blanks and TABs come first.
+pub fn blanks(text: &[u8]) -> usize
+    ensures count { result ≡ prefix_len is_blank text.now }
+    ensures within { result ≤ length text.now }
 {
     text.iter()
         .take_while(|byte| **byte == b' ' || **byte == b'\t')
         .count()
 }
 
-// Whether the first byte that is no blank is a `[`.
-fn begins_with_bracket(text: &[u8]) -> bool
+/// Whether the first byte that is no blank is a `[`. In an accepted bundle only headers begin so.
+pub fn begins_with_bracket(text: &[u8]) -> bool
     ensures { result ≡ begins_with_bracket text.now }
 {
     match text.get(blanks(text)) {
@@ -124,7 +123,7 @@ pub(crate) fn header_in(
     buffer: &mut Vec<Lexeme>,
     bytes: &[u8],
     line: &Line,
-) -> Result<Option<Header>, Memory>
+) -> Result<Option<Header>, AllocError>
     requires { IsWithin bytes.now line.now }
     ensures { IfOk result (λ header. IsHeaderOrNone (text_of bytes.now line.now) header) }
 {
@@ -136,6 +135,6 @@ pub(crate) fn header_in(
         Ok(Sight::Blank) => Ok(None),
         Ok(Sight::Other) => Ok(None),
         Err(LoadFault::Refused(_)) => Ok(None),
-        Err(LoadFault::Memory) => Err(Memory),
+        Err(LoadFault::Memory) => Err(AllocError),
     }
 }

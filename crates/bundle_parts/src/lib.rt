@@ -2,6 +2,8 @@
 #![tactic(auto)]
 
 mod cut;
-mod header;
+pub mod header;
 pub mod laws;
-pub mod read;
+mod read;
+
+pub use read::read_bundle;

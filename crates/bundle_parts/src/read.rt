@@ -10,10 +10,9 @@ ghost use Rattle.bundle_parts.specs.Parts.{ReadsIdl, ReadsDomains, ReadsPlan, Re
 
 use crate::cut::{At, first_header, part};
 use crate::header::Header;
-use bundle_syntax::clients::read::read_clients;
-use bundle_syntax::plan::read::read_plan;
-use domain_code::part::read_domains;
-use idl_syntax::part::read_idl;
+use bundle_syntax::{read_clients, read_plan};
+use domain_code::read_domains;
+use idl_syntax::read_idl;
 use rl_defs::LoadFault;
 use rl_defs::bundle::{Bundle, Clients, Plan};
 use rl_defs::code::DomainText;
@@ -21,7 +20,6 @@ use rl_defs::idl::Idl;
 use rl_defs::list::List;
 use rl_text::lexeme::Lexeme;
 use rl_text::line::Line;
-use rl_text::token::refused;
 use std::alloc::Global;
 
 // The interface part, if its header stands next.
@@ -37,10 +35,8 @@ fn take_interfaces(
     requires reached { IsReached (map (text_of bytes.now) lines.now) 0 at.old }
     ensures { ReadsIdl (map (text_of bytes.now) lines.now) at.old at.new result }
 {
-    match part(buffer, bytes, lines, at, Header::Interfaces) {
-        Ok(inside) => read_idl(alloc, bytes, inside),
-        Err(_) => Err(LoadFault::Memory),
-    }
+    let inside = part(buffer, bytes, lines, at, Header::Interfaces)?;
+    read_idl(alloc, bytes, inside)
 }
 
 // The domains, if their header stands next.
@@ -56,10 +52,8 @@ fn take_domains(
     requires reached { IsReached (map (text_of bytes.now) lines.now) 1 at.old }
     ensures { ReadsDomains (map (text_of bytes.now) lines.now) at.old at.new result }
 {
-    match part(buffer, bytes, lines, at, Header::Domains) {
-        Ok(inside) => read_domains(alloc, bytes, inside),
-        Err(_) => Err(LoadFault::Memory),
-    }
+    let inside = part(buffer, bytes, lines, at, Header::Domains)?;
+    read_domains(alloc, bytes, inside)
 }
 
 // The plan, if its header stands next.
@@ -75,10 +69,8 @@ fn take_plan(
     requires reached { IsReached (map (text_of bytes.now) lines.now) 2 at.old }
     ensures { ReadsPlan (map (text_of bytes.now) lines.now) at.old at.new result }
 {
-    match part(buffer, bytes, lines, at, Header::Plan) {
-        Ok(inside) => read_plan(alloc, bytes, inside),
-        Err(_) => Err(LoadFault::Memory),
-    }
+    let inside = part(buffer, bytes, lines, at, Header::Plan)?;
+    read_plan(alloc, bytes, inside)
 }
 
 // The clients, if their header stands next.
@@ -94,10 +86,8 @@ fn take_clients(
     requires reached { IsReached (map (text_of bytes.now) lines.now) 3 at.old }
     ensures { ReadsClients (map (text_of bytes.now) lines.now) at.old at.new result }
 {
-    match part(buffer, bytes, lines, at, Header::Clients) {
-        Ok(inside) => read_clients(alloc, bytes, inside),
-        Err(_) => Err(LoadFault::Memory),
-    }
+    let inside = part(buffer, bytes, lines, at, Header::Clients)?;
+    read_clients(alloc, bytes, inside)
 }
 
 /// The bundle that a text is, by its lines. A part that is missing has no lines. It is refused at the first line at which rule 1 or 2
@@ -117,7 +107,7 @@ pub fn read_bundle(alloc: Global, bytes: &[u8], lines: &[Line]) -> Result<Bundle
     let plan = take_plan(alloc, &mut buffer, bytes, lines, &mut at)?;
     let clients = take_clients(alloc, &mut buffer, bytes, lines, &mut at)?;
     match at.header {
-        Some(_) => Err(refused(lines[at.place].number, 2)),
+        Some(_) => Err(LoadFault::refused(lines[at.place].number, 2)),
         None => Ok(Bundle {
             idl,
             domains,

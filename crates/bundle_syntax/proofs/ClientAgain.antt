@@ -10,12 +10,12 @@ use Rattle.rl_defs.specs.Tokens.{Token, Name, Text, Sign}
 use Rattle.rl_defs.specs.IdlForms.{spell_more}
 use Rattle.rl_defs.specs.DomainForms.{spell_some}
 use Rattle.rl_defs.specs.BundleForms.{spell_name, spell_number, spell_arg, spell_names, spell_client}
-use Rattle.rl_text.specs.Reading.{name_at, number_at, text_at, mark_at, end_at}
+use Rattle.rl_text.specs.Reading.{name_at, number_at, text_at, mark_at, end_at, begins_word}
 use Rattle.rl_text.proofs.PartLaws.{part, mark_again, name_again, number_again, word_again, end_again, Again}
 use Rattle.bundle_syntax.specs.declared.clients.form.Verb.{Verb}
 use Rattle.bundle_syntax.specs.declared.clients.form.Verb.TheVariants as verb
 use Rattle.bundle_syntax.specs.ClientVerbs.{verb_text, verb_of}
-use Rattle.bundle_syntax.specs.ClientLines.{plain_at, arg_at, client_at, let_at, text_line_at, args_at, names_at, callee_at, behind_callee_at, call_line_at, begins_call, show_at, drop_at, kill_at, operands_at, by_word_at, word_line_at, form_at, line_at}
+use Rattle.bundle_syntax.specs.ClientLines.{plain_at, arg_at, client_at, let_at, text_line_at, args_at, names_at, callee_at, behind_callee_at, call_line_at, show_at, drop_at, kill_at, operands_at, by_word_at, word_line_at, form_at, line_at}
 use Rattle.bundle_syntax.proofs.Readings.{Fine, list_again, list_whole, some_again, names_again, numbers_again, number_something}
 
 verb_again : (v : Verb) → verb_of (verb_text v) ≡ Some v
@@ -27,7 +27,7 @@ verb_again verb.Show = refl
 verb_again verb.Drop = refl
 verb_again verb.Kill = refl
 
-no_call : (v : Verb) (ts : List Token) → begins_call (Name (verb_text v) ∷ ts) ≡ false
+no_call : (v : Verb) (ts : List Token) → begins_word (codes "call") (Name (verb_text v) ∷ ts) ≡ false
 no_call verb.Client ts = refl
 no_call verb.Let ts = refl
 no_call verb.Text ts = refl

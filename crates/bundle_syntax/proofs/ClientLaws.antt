@@ -5,10 +5,9 @@ use Rattle.rl_defs.specs.Tokens.{Token, HasTokens}
 use Rattle.rl_defs.specs.BundleForms.{spell_client, IsClientLine}
 use Rattle.rl_defs.specs.BundleParts.{client_part}
 use Rattle.rl_text.specs.Reading.{name_at, mark_at}
-use Rattle.rl_text.proofs.FormLaws.{IsReading}
-use Rattle.rl_text.proofs.PartRules.{AreForms}
+use Rattle.rl_text.specs.Forms.{IsReading}
+use Rattle.rl_text.proofs.PartRules.{AreForms, forms_read}
 use Rattle.bundle_syntax.specs.ClientLines.{line_at, form_at, word_line_at}
-use Rattle.bundle_syntax.proofs.Readings.{forms_read}
 use Rattle.bundle_syntax.proofs.ClientTakes.{line_takes}
 use Rattle.bundle_syntax.proofs.ClientAgain.{line_again}
 
@@ -27,4 +26,4 @@ reading = record {
 }
 
 pub client_forms : AreForms client_part
-client_forms = forms_read client_part line_at reading
+client_forms = forms_read client_part read reading

@@ -1,7 +1,6 @@
 -- Lines of the clients: what is read is spelled so.
-use Rattle.std.proofs.Common.{◌≡◌, ℕ, ◌≤◌, inl, inr, Bool, true, false, cond, List, [], ◌∷◌, ◌++◌, length, drop, map, Some, refl, sym, ap, ◌∙◌, append_assoc, append-nil, arith}
+use Rattle.std.proofs.Common.{◌≡◌, ℕ, inl, inr, Bool, true, false, cond, List, [], ◌∷◌, ◌++◌, Some, refl, sym, ap, ◌∙◌, append_assoc, append-nil}
 use Rattle.std.specs.Prelude.{codes}
-use Rattle.std.proofs.lemmas.List.{drop-map, length-map}
 use Rattle.rl_defs.specs.declared.bundle.ScriptArgText.{ScriptArgText}
 use Rattle.rl_defs.specs.declared.bundle.ScriptArgText.TheVariants as arg
 use Rattle.rl_defs.specs.declared.bundle.ClientLine.{ClientLine}
@@ -10,8 +9,7 @@ use Rattle.rl_defs.specs.declared.lexeme.Mark.TheVariants as m
 use Rattle.rl_defs.specs.Tokens.{Token, Name, Reserved, Number, Text, Sign}
 use Rattle.rl_defs.specs.DomainForms.{spell_some}
 use Rattle.rl_defs.specs.BundleForms.{spell_name, spell_number, spell_arg, spell_names, spell_client}
-use Rattle.rl_text.specs.declared.lexeme.Lexeme.{Lexeme}
-use Rattle.rl_text.specs.Reading.{◌>>=◌, either, name_at, number_at, text_at, mark_at, word_at, end_at}
+use Rattle.rl_text.specs.Reading.{◌>>=◌, either, name_at, number_at, text_at, mark_at, word_at, end_at, begins_number, begins_word}
 use Rattle.rl_text.specs.Many.{list_at, some_at}
 use Rattle.rl_text.proofs.PartLaws.{part, both_parts, bind_some, either_some, mark_takes, mark_step, word_step, name_step, number_step, end_takes, Takes}
 use Rattle.rl_text.proofs.ManyLaws.{Shortens, shortens}
@@ -19,7 +17,7 @@ use Rattle.bundle_syntax.specs.declared.clients.form.Called.{Called}
 use Rattle.bundle_syntax.specs.declared.clients.form.Verb.{Verb}
 use Rattle.bundle_syntax.specs.declared.clients.form.Verb.TheVariants as verb
 use Rattle.bundle_syntax.specs.ClientVerbs.{verb_text, likely_verb, verb_of}
-use Rattle.bundle_syntax.specs.ClientLines.{lent_at, target_at, number_arg_at, name_arg_at, is_number, plain_at, arg_at, client_at, let_at, text_line_at, several_args_at, args_at, names_at, callee_at, behind_callee_at, call_line_at, begins_call, show_at, drop_at, kill_at, operands_at, by_word_at, word_line_at, close_at, form_at, other_line_at, line_at}
+use Rattle.bundle_syntax.specs.ClientLines.{lent_at, target_at, number_arg_at, name_arg_at, plain_at, arg_at, client_at, let_at, text_line_at, several_args_at, args_at, names_at, callee_at, behind_callee_at, call_line_at, show_at, drop_at, kill_at, operands_at, by_word_at, word_line_at, close_at, form_at, other_line_at, line_at}
 use Rattle.bundle_syntax.proofs.Readings.{Fine, Behind, behind, moved, whole_takes, word_is, list_takes, list_some, some_takes, names_take, numbers_take}
 
 -- ---- words
@@ -46,7 +44,7 @@ plain_case false ts a rest e = name_arg_takes ts a rest e
 
 plain_takes : Takes spell_arg Fine plain_at
 unfolding plain_at
-plain_takes ts a rest e = plain_case (is_number ts) ts a rest e
+plain_takes ts a rest e = plain_case (begins_number ts) ts a rest e
 
 lent_takes : Behind spell_arg Fine (Sign m.Ampersand) lent_at
 lent_takes ts a rest e =
@@ -208,20 +206,9 @@ callee_is ts c rest e =
     v.1 ∙ ap (behind (Name (codes "call"))) (w.1 ∙ ap (behind (Name w.0.0)) (x.1 ∙ ap (behind (Sign m.Dot)) (y.1 ∙ ap (behind (Name y.0.0)) z.1)))
     ∙ ap (callee_before z.0) q.0 ∙ ap (λ (t : List Token). callee_before t c) q.1
 
--- the tokens of a call's arguments stand behind five others
-pub callee_long : (token : Lexeme → Token) (all : List Lexeme) (c : Called) (rest : List Token) → callee_at (map token all) ≡ Some (part c rest) → 5 ≤ length all
-callee_long token all c rest e = omega (arith, ap length (callee_is (map token all) c rest e), length-map all token)
-
-pub callee_behind : (token : Lexeme → Token) (all : List Lexeme) (c : Called) (rest : List Token) → callee_at (map token all) ≡ Some (part c rest) → rest ≡ map token (drop 5 all)
-callee_behind token all c rest e = sym (ap (drop 5) (callee_is (map token all) c rest e)) ∙ drop-map token 5 all
-
 call_spelled : (c : Called) (args : List ScriptArgText) (names : List (List ℕ)) → callee_before (args_spelled args ++ spell_names names) c ≡ spell_client (client.Call c.target c.method args names)
 unfolding args_spelled
 call_spelled c args names = ap (λ (t : List Token). callee_before t c) (append_assoc (spell_some spell_arg args) close (spell_names names))
-
-pub call_is : (ts : List Token) (c : Called) (rest : List Token) → callee_at ts ≡ Some (part c rest) → call_line_at ts ≡ behind_callee_at c rest
-unfolding call_line_at
-call_is ts c rest e = rw e refl
 
 call_takes : (ts : List Token) (l : ClientLine) → call_line_at ts ≡ Some l → (ts ≡ spell_client l) × Fine l
 unfolding call_line_at behind_callee_at
@@ -237,18 +224,10 @@ call_takes ts l e =
     let args : v.0.1 ≡ args_spelled w.0.0 ++ spell_names x.0.0 = (args_are v.0.1 w.0.0 w.0.1 w.1).0 ∙ ap (λ (t : List Token). args_spelled w.0.0 ++ t) names in
     (callee_is ts c v.0.1 v.1 ∙ ap (λ (t : List Token). callee_before t c) args ∙ call_spelled c w.0.0 x.0.0 ∙ ap spell_client same, tt)
 
-pub line_call : (ts : List Token) → begins_call ts ≡ true → line_at ts ≡ call_line_at ts
-unfolding line_at
-line_call ts e = rw e refl
-
-pub line_other : (ts : List Token) → begins_call ts ≡ false → line_at ts ≡ other_line_at ts
-unfolding line_at
-line_other ts e = rw e refl
-
 line_case : (b : Bool) (ts : List Token) (l : ClientLine) → cond b (call_line_at ts) (other_line_at ts) ≡ Some l → (ts ≡ spell_client l) × Fine l
 line_case true ts l e = call_takes ts l e
 line_case false ts l e = whole_takes spell_client Fine form_at form_takes ts l e
 
 pub line_takes : (ts : List Token) (l : ClientLine) → line_at ts ≡ Some l → ts ≡ spell_client l
 unfolding line_at
-line_takes ts l e = (line_case (begins_call ts) ts l e).0
+line_takes ts l e = (line_case (begins_word (codes "call") ts) ts l e).0

@@ -5,10 +5,9 @@ use Rattle.rl_defs.specs.Tokens.{Token, HasTokens}
 use Rattle.rl_defs.specs.BundleForms.{spell_plan, IsPlanLine}
 use Rattle.rl_defs.specs.BundleParts.{plan_part}
 use Rattle.rl_text.specs.Reading.{name_at}
-use Rattle.rl_text.proofs.FormLaws.{IsReading}
-use Rattle.rl_text.proofs.PartRules.{AreForms}
+use Rattle.rl_text.specs.Forms.{IsReading}
+use Rattle.rl_text.proofs.PartRules.{AreForms, forms_read}
 use Rattle.bundle_syntax.specs.PlanLines.{line_at, form_at}
-use Rattle.bundle_syntax.proofs.Readings.{forms_read}
 use Rattle.bundle_syntax.proofs.PlanTakes.{line_takes}
 use Rattle.bundle_syntax.proofs.PlanAgain.{line_again}
 
@@ -32,4 +31,4 @@ reading = record {
 }
 
 pub plan_forms : AreForms plan_part
-plan_forms = forms_read plan_part line_at reading
+plan_forms = forms_read plan_part read reading

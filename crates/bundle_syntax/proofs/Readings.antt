@@ -6,15 +6,12 @@ use Rattle.std.proofs.lemmas.Slice.Eq.{slice_eq-Decides}
 use Rattle.std.proofs.lemmas.Bool.Decides.{Decides-eqb}
 use Rattle.rl_defs.specs.declared.lexeme.Mark.TheVariants as m
 use Rattle.rl_defs.specs.Tokens.{Token}
-use Rattle.rl_defs.specs.Parts.{Grammar}
 use Rattle.rl_defs.specs.IdlForms.{spell_more}
 use Rattle.rl_defs.specs.DomainForms.{spell_some}
 use Rattle.rl_defs.specs.BundleForms.{spell_name, spell_number}
 use Rattle.rl_text.specs.Reading.{Reader, ◌>>=◌, name_at, number_at, mark_at, end_at, none_left}
 use Rattle.rl_text.specs.Many.{all_at, list_at, some_at}
 use Rattle.rl_text.proofs.PartLaws.{Part, part, both_parts, bind_some, name_takes, name_again, number_takes, number_again, end_takes, Takes, Again}
-use Rattle.rl_text.proofs.FormLaws.{IsReading, one_form, skipped_no_form}
-use Rattle.rl_text.proofs.PartRules.{AreForms}
 use Rattle.rl_text.proofs.ManyLaws.{AllValid, Shortens, shortens, all_takes, all_again}
 
 -- each value of these parts keeps to its rules
@@ -63,14 +60,6 @@ pub word_is : {V : Type 0} (text : V → List ℕ) (likely : Option V) (word : L
 word_is text likely word v e =
     let x = bind_some likely (λ w. cond (pointwise nat_eq (text w) word) (Some w) None) v e in
     word_case text x.0 v word _ refl x.2
-
--- ---- what a part needs
-
--- what a part needs of its forms, where its lines are read so
-pub forms_read : {Form Block : Type 0} (G : Grammar Form Block) (line_at : List Token → Option Form) → IsReading G.is_line (λ text ts. line_at ts) → AreForms G
-forms_read {Form} G line_at reading =
-    let read : List ℕ → List Token → Option Form = λ text ts. line_at ts in
-    record { one = one_form G.is_line read reading; skipped = skipped_no_form G.is_line read reading }
 
 -- ---- lists
 

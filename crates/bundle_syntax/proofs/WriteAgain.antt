@@ -6,7 +6,7 @@ use Rattle.rl_defs.specs.declared.bundle.PlanLine.{PlanLine}
 use Rattle.rl_defs.specs.declared.bundle.ClientLine.{ClientLine}
 use Rattle.rl_defs.specs.Lines.{lines_of}
 use Rattle.rl_defs.specs.Tokens.{Token}
-use Rattle.rl_defs.specs.Canonical.{render_line}
+use Rattle.rl_text.specs.Canonical.{render_line}
 use Rattle.rl_defs.specs.Parts.{Grammar, StandFor, next_open, block_behind, forms_of}
 use Rattle.rl_defs.specs.BundleForms.{spell_plan, spell_client}
 use Rattle.rl_defs.specs.BundleParts.{plan_part, Anywhere, client_part}
@@ -15,7 +15,7 @@ use Rattle.rl_text.proofs.WrittenLines.{written_first, written_has}
 use Rattle.bundle_syntax.specs.LinesCanonical.{write_lines}
 use Rattle.bundle_syntax.specs.PlanCanonical as plan
 use Rattle.bundle_syntax.specs.ClientCanonical as clients
-use Rattle.bundle_syntax.specs.Writable.{PlanCanBeRead, IsPlanAgain, ClientsCanBeRead, IsReadAgain, IsAccepted}
+use Rattle.bundle_syntax.specs.Writable.{PlanCanBeRead, IsPlanAgain, ClientsCanBeRead, IsReadAgain, NothingRefused}
 use Rattle.bundle_syntax.proofs.PlanLaws.{plan_forms}
 use Rattle.bundle_syntax.proofs.ClientLaws.{client_forms}
 use Rattle.bundle_syntax.proofs.OrderLaws.{ordered_nowhere}
@@ -62,6 +62,6 @@ clients_read (l ∷ ls) h = ((h.0.0, written_has (clients.depth_of l.form) (spel
 pub clients_again : (lines : List (Numbered ClientLine)) (text : List ℕ) → text ≡ clients.write_clients lines → IsReadAgain lines text
 clients_again lines text is h first = subst (λ (t : List ℕ). StandFor client_part first (lines_of t) (renumbered first lines)) (sym is) (lines_again client_part clients.depth_of spell_client lines (clients_read lines h) first)
 
-pub clients_accepted : (lines : List (Numbered ClientLine)) (text : List ℕ) → text ≡ clients.write_clients lines → IsAccepted lines text
+pub clients_accepted : (lines : List (Numbered ClientLine)) (text : List ℕ) → text ≡ clients.write_clients lines → NothingRefused lines text
 clients_accepted lines text is h order first =
     ordered_nowhere client_part client_forms first (lines_of text) (renumbered first lines) (clients_again lines text is h first) (ap (block_behind client_part) (same_forms first lines) ∙ order)

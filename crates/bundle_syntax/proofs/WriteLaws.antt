@@ -4,7 +4,7 @@ use Rattle.std.proofs.lemmas.List.{at_drop_more, drop_all}
 use Rattle.rl_defs.specs.declared.bundle.Numbered.{Numbered}
 use Rattle.rl_defs.specs.Words.{is_name}
 use Rattle.rl_defs.specs.Tokens.{Token}
-use Rattle.rl_defs.specs.Canonical.{render_line}
+use Rattle.rl_text.specs.Canonical.{render_line}
 use Rattle.bundle_syntax.specs.declared.plan.form.Verb as plan
 use Rattle.bundle_syntax.specs.declared.plan.form.Verb.TheVariants as plans
 use Rattle.bundle_syntax.specs.declared.clients.form.Verb as client

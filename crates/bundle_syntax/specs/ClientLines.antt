@@ -1,13 +1,12 @@
 -- The line of the clients that tokens spell.
-use Rattle.std.specs.Prelude.{ℕ, Bool, true, false, ◌==◌, List, [], ◌∷◌, Option, Some, if◌then◌else◌, codes}
-use Rattle.std.specs.Cmp.Lexicographic.{pointwise}
+use Rattle.std.specs.Prelude.{ℕ, List, [], Option, Some, if◌then◌else◌, codes}
 use Rattle.rl_defs.specs.declared.bundle.ScriptArgText.{ScriptArgText}
 use Rattle.rl_defs.specs.declared.bundle.ScriptArgText.TheVariants as arg
 use Rattle.rl_defs.specs.declared.bundle.ClientLine.{ClientLine}
 use Rattle.rl_defs.specs.declared.bundle.ClientLine.TheVariants as client
 use Rattle.rl_defs.specs.declared.lexeme.Mark.TheVariants as m
-use Rattle.rl_defs.specs.Tokens.{Token, Name, Number}
-use Rattle.rl_text.specs.Reading.{Reader, ◌>>=◌, either, name_at, number_at, text_at, mark_at, word_at, end_at}
+use Rattle.rl_defs.specs.Tokens.{Token}
+use Rattle.rl_text.specs.Reading.{Reader, ◌>>=◌, either, name_at, number_at, text_at, mark_at, word_at, end_at, begins_number, begins_word}
 use Rattle.rl_text.specs.Many.{list_at, some_at}
 use Rattle.bundle_syntax.specs.declared.clients.form.Called.{Called}
 use Rattle.bundle_syntax.specs.declared.clients.form.Verb.{Verb}
@@ -36,14 +35,9 @@ name_arg_at ts = do
   name ← name_at ts
   Some (arg.Name name.0, name.1)
 
--- the first token is a number
-abbrev pub is_number : List Token → Bool
-is_number (Number n ∷ rest) = true
-is_number _ = false
-
 -- a number or a name
 unfoldable pub plain_at : Reader ScriptArgText
-plain_at ts = if is_number ts then number_arg_at ts else name_arg_at ts
+plain_at ts = if begins_number ts then number_arg_at ts else name_arg_at ts
 
 -- an argument of a call
 unfoldable pub arg_at : Reader ScriptArgText
@@ -112,11 +106,6 @@ call_line_at ts = do
   callee ← callee_at ts
   behind_callee_at callee.0 callee.1
 
--- the line begins with `call`
-abbrev pub begins_call : List Token → Bool
-begins_call (Name word ∷ rest) = pointwise ◌==◌ word (codes "call")
-begins_call _ = false
-
 unfoldable pub show_at : Reader ClientLine
 show_at ts = do
   name ← name_at ts
@@ -167,4 +156,4 @@ other_line_at ts = do
 
 -- the line that all tokens spell
 unfoldable pub line_at : List Token → Option ClientLine
-line_at ts = if begins_call ts then call_line_at ts else other_line_at ts
+line_at ts = if begins_word (codes "call") ts then call_line_at ts else other_line_at ts

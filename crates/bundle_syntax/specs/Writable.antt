@@ -37,6 +37,6 @@ abbrev pub IsReadAgain : List (Numbered ClientLine) → List ℕ → Type 0
 IsReadAgain lines text = ClientsCanBeRead lines → (first : ℕ) → StandFor client_part first (lines_of text) (renumbered first lines)
 
 -- Where the lines stand in an order in which they may stand, and each client is closed, no rule refuses the text.
-abbrev pub IsAccepted : List (Numbered ClientLine) → List ℕ → Type 0
-IsAccepted lines text =
+abbrev pub NothingRefused : List (Numbered ClientLine) → List ℕ → Type 0
+NothingRefused lines text =
     ClientsCanBeRead lines → block_behind client_part (forms_of lines) ≡ Some Outside → (first : ℕ) → Nowhere (FailsClients first (lines_of text))

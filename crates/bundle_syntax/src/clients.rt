@@ -1,6 +1,9 @@
 //! The lines of the clients.
 
+mod arg;
 mod form;
-mod lookahead;
-pub mod read;
-pub mod write;
+mod read;
+mod write;
+
+pub use read::read_clients;
+pub use write::write_clients;

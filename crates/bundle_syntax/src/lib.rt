@@ -1,11 +1,13 @@
 //! The lines of the plan and of the clients, read and written.
 #![tactic(auto)]
 
-pub mod clients;
+mod clients;
 pub mod laws;
 mod list;
-mod part;
-pub mod plan;
+mod plan;
 #[cfg(test)]
 mod tests;
 mod written;
+
+pub use clients::{read_clients, write_clients};
+pub use plan::{read_plan, write_plan};

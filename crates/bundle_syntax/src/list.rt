@@ -5,13 +5,12 @@ ghost use Rattle.rl_defs.specs.DomainForms.{spell_some};
 ghost use Rattle.rl_defs.specs.BundleForms.{spell_name, spell_number};
 ghost use Rattle.rl_text.specs.Reading.{Gives, name_at, number_at};
 
-use rl_defs::Memory;
 use rl_defs::lexeme::Mark;
 use rl_defs::name::Name;
 use rl_text::cursor::{Cursor, Stop};
 use rl_text::list::Item;
 use rl_text::render::Spelling;
-use std::alloc::Global;
+use std::alloc::{AllocError, Global};
 
 /// A name.
 pub(crate) struct OneName;
@@ -46,7 +45,7 @@ impl Item for OneNumber {
 }
 
 // Names, a comma before each.
-fn put_more_names(out: &mut Spelling<'_>, names: &[Name]) -> Result<(), Memory>
+fn put_more_names(out: &mut Spelling<'_>, names: &[Name]) -> Result<(), AllocError>
     ensures { OnOk result (out.new ≡ out.old ++ spell_more spell_name names.now) }
 {
     'names: for name in names {
@@ -57,7 +56,7 @@ fn put_more_names(out: &mut Spelling<'_>, names: &[Name]) -> Result<(), Memory>
 }
 
 /// Puts names last, a comma between two of them.
-pub(crate) fn put_names(out: &mut Spelling<'_>, names: &[Name]) -> Result<(), Memory>
+pub(crate) fn put_names(out: &mut Spelling<'_>, names: &[Name]) -> Result<(), AllocError>
     ensures { OnOk result (out.new ≡ out.old ++ spell_some spell_name names.now) }
 {
     match names {
@@ -70,7 +69,7 @@ pub(crate) fn put_names(out: &mut Spelling<'_>, names: &[Name]) -> Result<(), Me
 }
 
 // Numbers, a comma before each.
-fn put_more_numbers(out: &mut Spelling<'_>, numbers: &[u64]) -> Result<(), Memory>
+fn put_more_numbers(out: &mut Spelling<'_>, numbers: &[u64]) -> Result<(), AllocError>
     ensures { OnOk result (out.new ≡ out.old ++ spell_more spell_number numbers.now) }
 {
     'numbers: for number in numbers {
@@ -81,7 +80,7 @@ fn put_more_numbers(out: &mut Spelling<'_>, numbers: &[u64]) -> Result<(), Memor
 }
 
 /// Puts numbers last, a comma between two of them.
-pub(crate) fn put_numbers(out: &mut Spelling<'_>, numbers: &[u64]) -> Result<(), Memory>
+pub(crate) fn put_numbers(out: &mut Spelling<'_>, numbers: &[u64]) -> Result<(), AllocError>
     ensures { OnOk result (out.new ≡ out.old ++ spell_some spell_number numbers.now) }
 {
     match numbers {

@@ -1,5 +1,8 @@
 //! The lines of the plan.
 
 mod form;
-pub mod read;
-pub mod write;
+mod read;
+mod write;
+
+pub use read::read_plan;
+pub use write::write_plan;

@@ -1,8 +1,5 @@
 //! Tests of the plan and of the clients: worked parts, and lines with their answers.
-use crate::clients::read::read_clients;
-use crate::clients::write::write_clients;
-use crate::plan::read::read_plan;
-use crate::plan::write::write_plan;
+use crate::{read_clients, read_plan, write_clients, write_plan};
 use rl_defs::LoadFault;
 use rl_text::line::lines;
 use std::alloc::Global;
@@ -34,42 +31,26 @@ enum Answer {
     Refused(u32, u8),
 }
 
-fn refused(fault: LoadFault) -> Result<Answer, Fail> {
+// What a text is read as and written back.
+fn read_back(alloc: Global, is_plan: bool, text: &[u8]) -> Result<Answer, Fail> {
+    if text.len() > 4096 {
+        return Err(Fail::from("long"));
+    }
+    let all = lines(alloc, text)?;
+    let fault = if is_plan {
+        match read_plan(alloc, text, &all) {
+            Ok(plan) => return Ok(Answer::Written(write_plan(alloc, &plan)?)),
+            Err(fault) => fault,
+        }
+    } else {
+        match read_clients(alloc, text, &all) {
+            Ok(clients) => return Ok(Answer::Written(write_clients(alloc, &clients)?)),
+            Err(fault) => fault,
+        }
+    };
     match fault {
         LoadFault::Refused(at) => Ok(Answer::Refused(at.line, at.rule)),
         LoadFault::Memory => Err(Fail::from("memory")),
-    }
-}
-
-fn plan(alloc: Global, text: &[u8]) -> Result<Answer, Fail> {
-    if text.len() > 4096 {
-        return Err(Fail::from("long"));
-    }
-    let Ok(all) = lines(alloc, text) else {
-        return Err(Fail::from("memory"));
-    };
-    match read_plan(alloc, text, &all) {
-        Ok(plan) => match write_plan(alloc, &plan) {
-            Ok(out) => Ok(Answer::Written(out)),
-            Err(_) => Err(Fail::from("memory")),
-        },
-        Err(fault) => refused(fault),
-    }
-}
-
-fn clients(alloc: Global, text: &[u8]) -> Result<Answer, Fail> {
-    if text.len() > 4096 {
-        return Err(Fail::from("long"));
-    }
-    let Ok(all) = lines(alloc, text) else {
-        return Err(Fail::from("memory"));
-    };
-    match read_clients(alloc, text, &all) {
-        Ok(clients) => match write_clients(alloc, &clients) {
-            Ok(out) => Ok(Answer::Written(out)),
-            Err(_) => Err(Fail::from("memory")),
-        },
-        Err(fault) => refused(fault),
     }
 }
 
@@ -80,94 +61,24 @@ fn is_written(answer: &Answer, text: &[u8]) -> bool {
     }
 }
 
-fn is_refused(answer: &Answer, line: u32, rule: u8) -> bool {
-    match answer {
-        Answer::Written(_) => false,
-        Answer::Refused(at, by) => *at == line && *by == rule,
-    }
-}
-
 #[test]
 fn worked(rt: HostRuntime) -> Result<(), Fail> {
     let alloc = rt.alloc();
     for text in PLANS {
-        assert!(rt; is_written(&plan(alloc, text)?, text));
+        assert!(rt; is_written(&read_back(alloc, true, text)?, text));
     }
     for text in CLIENTS {
-        assert!(rt; is_written(&clients(alloc, text)?, text));
+        assert!(rt; is_written(&read_back(alloc, false, text)?, text));
     }
     // The same in another spelling.
-    let bare = plan(alloc, b"// plan\n\nload\ta=B // one\r\nfuel 0x10")?;
+    let bare = read_back(alloc, true, b"// plan\n\nload\ta=B // one\r\nfuel 0x10")?;
     assert!(rt; is_written(&bare, b"load a = B\nfuel 16\n"));
-    let bare = clients(alloc, b"\nclient a{\ncall b.c(1,&d)->e//\n} // a")?;
+    let bare = read_back(alloc, false, b"\nclient a{\ncall b.c(1,&d)->e//\n} // a")?;
     assert!(rt; is_written(&bare, b"client a {\n    call b.c(1, &d) -> e\n}\n"));
-    Ok(())
-}
-
-#[test]
-fn plan_lines(rt: HostRuntime) -> Result<(), Fail> {
-    let alloc = rt.alloc();
-    let rows: [&[u8]; 15] = [
-        b"load a",
-        b"load u8 = A",
-        b"load a = A b",
-        b"bind a = b",
-        b"bind a.b = c.d",
-        b"shadow d = a restart 1",
-        b"shadow d = a restarts",
-        b"device a 0X1",
-        b"serial",
-        b"fuel 18446744073709551616",
-        b"fuel one",
-        b"order",
-        b"order x,",
-        b"order x y",
-        b"loads a = A",
-    ];
-    for text in rows {
-        assert!(rt; is_refused(&plan(alloc, text)?, 1, 1));
-    }
-    assert!(rt; is_refused(&plan(alloc, b"serial a\n\n}\n")?, 3, 1));
-    Ok(())
-}
-
-#[test]
-fn client_lines(rt: HostRuntime) -> Result<(), Fail> {
-    let alloc = rt.alloc();
-    let rows: [&[u8]; 20] = [
-        b"client a",
-        b"client fn {",
-        b"let a = new P 1,",
-        b"let a = P 1",
-        b"let a = new P b",
-        b"let a = new P 0X1",
-        b"text a = P",
-        b"text a = P \"b",
-        b"text a = P \"b\" 1",
-        b"call a.b",
-        b"call a.b(1,)",
-        b"call a.b() ->",
-        b"call a.b() -> c,",
-        b"call a.b(&1)",
-        b"call a.b(@)",
-        b"call a.b(\"c\")",
-        b"show",
-        b"drop self",
-        b"kill a b",
-        b"call",
-    ];
-    for text in rows {
-        assert!(rt; is_refused(&clients(alloc, text)?, 1, 1));
-    }
-    let misplaced: [(&[u8], u32); 5] = [
-        (b"show a\n", 1),
-        (b"}\n", 1),
-        (b"client a {\nclient b {\n}\n}\n", 2),
-        (b"client a {\n// open\n", 3),
-        (b"client a {\n}\n\ncall a.b()\n", 4),
-    ];
-    for (text, line) in misplaced {
-        assert!(rt; is_refused(&clients(alloc, text)?, line, 2));
-    }
+    // A line that is no form, and one that may not stand there.
+    let broken = read_back(alloc, true, b"serial a\n\n}\n")?;
+    assert!(rt; matches!(broken, Answer::Refused(3, 1)));
+    let misplaced = read_back(alloc, false, b"client a {\n}\n\ncall a.b()\n")?;
+    assert!(rt; matches!(misplaced, Answer::Refused(4, 2)));
     Ok(())
 }

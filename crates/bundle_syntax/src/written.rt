@@ -3,10 +3,9 @@ ghost use Rattle.std.specs.Prelude.{◌≡◌, ℕ, List, ◌++◌, OnOk};
 ghost use Rattle.rl_defs.specs.Tokens.{Token};
 ghost use Rattle.bundle_syntax.specs.LinesCanonical.{write_lines};
 
-use rl_defs::Memory;
 use rl_defs::bundle::Numbered;
 use rl_text::render::Spelling;
-use std::alloc::Global;
+use std::alloc::{AllocError, Global};
 
 /// A line that can be written, by its form.
 pub(crate) trait Written: Drop {
@@ -17,7 +16,7 @@ pub(crate) trait Written: Drop {
     ghost depth_of: { Self → ℕ };
 
     /// Puts the tokens of the line last.
-    fn put<'a>(&'a self, out: &mut Spelling<'a>) -> Result<(), Memory>
+    fn put<'a>(&'a self, out: &mut Spelling<'a>) -> Result<(), AllocError>
         ensures { OnOk result (out.new ≡ out.old ++ spell self.now) };
 
     /// How many blocks are open round the line.
@@ -25,13 +24,13 @@ pub(crate) trait Written: Drop {
         ensures { result ≡ depth_of self.now };
 }
 
-/// Puts lines last, each with four blanks for each block that is open round it, and a line feed. After `Memory` some of them may
+/// Puts lines last, each with four blanks for each block that is open round it, and a line feed. After `AllocError` some of them may
 /// stand there.
 pub(crate) fn put_lines<F: Written>(
     alloc: Global,
     bytes: &mut Vec<u8>,
     lines: &[Numbered<F>],
-) -> Result<(), Memory>
+) -> Result<(), AllocError>
     ensures { OnOk result (bytes.new.items ≡ bytes.old.items ++ write_lines F.depth_of F.spell lines.now) }
 {
     let mut out = Spelling::new(alloc);

@@ -16,8 +16,8 @@ use Rattle.rl_defs.specs.declared.tables.Tables.{Tables}
 use Rattle.rl_defs.specs.Domains.{Lines}
 use Rattle.rl_defs.specs.CodeKinds.{Kinds, is_own}
 use Rattle.rl_defs.specs.CodeRules.{owns_nothing}
-use Rattle.rl_defs.specs.Instructions.{Registers, is_listed}
-use Rattle.rl_defs.specs.CodeFits.{Typing, fits_kind, Fits}
+use Rattle.rl_defs.specs.Registers.{Registers, is_listed}
+use Rattle.rl_defs.specs.Registers.{Typing, fits_kind, Fits}
 use Rattle.rl_defs.specs.LineRows.{emptied, Leads}
 use Rattle.domain_checker.specs.declared.ways.Run.{Run}
 use Rattle.domain_checker.specs.Heads.{is_in, all_registers, run_at, keep_in, holds_some, holds_any, is_emptied, Puts, Grows}

@@ -13,8 +13,9 @@ use Rattle.rl_defs.specs.Domains.{Lines, body_of_function, begins_function}
 use Rattle.rl_defs.specs.CodeNames.{methods_of, domain_trait}
 use Rattle.rl_defs.specs.Refusals.{Nowhere}
 use Rattle.rl_defs.specs.CodeRules.{FailsCode}
-use Rattle.rl_defs.specs.CodeFits.{AreTablesSmall, IsOneDomain}
-use Rattle.rl_defs.specs.LineRows.{entry_at, entry_of}
+use Rattle.rl_defs.specs.TableSizes.{AreTablesSmall}
+use Rattle.rl_defs.specs.DomainParts.{IsOneDomain}
+use Rattle.rl_defs.specs.CodeNames.{entry_at, entry_of}
 use Rattle.rl_defs.specs.Checked.{IsChecked}
 use Rattle.domain_checker.specs.Numbering.{body_from}
 use Rattle.domain_checker.specs.Keeping.{AreRows, IsKept, entries_of, domain}

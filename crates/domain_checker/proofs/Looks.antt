@@ -6,7 +6,7 @@ use Rattle.std.proofs.lemmas.List.Elements.{All-get_or}
 use Rattle.rl_defs.specs.declared.tables.TraitRow.{TraitRow}
 use Rattle.rl_defs.specs.declared.tables.Tables.{Tables}
 use Rattle.rl_defs.specs.Interfaces.{place_of}
-use Rattle.rl_defs.specs.CodeFits.{AreTablesSmall, IsTraitSmall}
+use Rattle.rl_defs.specs.TableSizes.{AreTablesSmall, IsTraitSmall}
 use Rattle.domain_checker.specs.Numbering.{look_in, AreLooks}
 
 -- what all items of a list have

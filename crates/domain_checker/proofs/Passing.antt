@@ -5,7 +5,7 @@ use Rattle.rl_defs.specs.declared.code.HeadItem.{HeadItem}
 use Rattle.rl_defs.specs.declared.code.DomainLine.{DomainLine}
 use Rattle.rl_defs.specs.declared.code.DomainLine.TheVariants as line
 use Rattle.rl_defs.specs.Domains.{Lines}
-use Rattle.rl_defs.specs.Instructions.{Registers, Stand, keep_from, kept, through_form, through}
+use Rattle.rl_defs.specs.Registers.{Registers, Stand, keep_from, kept, through_form, through}
 use Rattle.domain_checker.specs.declared.ways.Run.{Run}
 use Rattle.domain_checker.specs.Heads.{is_in, all_registers, with_items, run_form, run_at, keep_in}
 use Rattle.domain_checker.proofs.SetLaws.{in_both, in_all, in_listed}

@@ -10,7 +10,7 @@ use Rattle.rl_defs.specs.declared.code.DomainLine.TheVariants as line
 use Rattle.rl_defs.specs.declared.checked.Way.{Way}
 use Rattle.rl_defs.specs.DomainValue.{Domain}
 use Rattle.rl_defs.specs.CodeKinds.{Kinds, kinds_at}
-use Rattle.rl_defs.specs.CodeRules.{label_of, place_of_label}
+use Rattle.rl_defs.specs.CodeNames.{label_of, place_of_label}
 use Rattle.rl_defs.specs.LineRows.{number_named, type_named, Leads}
 use Rattle.rl_defs.specs.Checked.{IsWithin, IsRow, emptied_on}
 use Rattle.domain_checker.specs.Lowest.{lowest, from_32}

@@ -11,7 +11,7 @@ use Rattle.rl_defs.specs.declared.checked.Way.{Way}
 use Rattle.rl_defs.specs.declared.checked.LineRow.{LineRow}
 use Rattle.rl_defs.specs.DomainValue.{Domain}
 use Rattle.rl_defs.specs.CodeKinds.{Kinds, kinds_at, at_label}
-use Rattle.rl_defs.specs.CodeRules.{label_of, place_of_label}
+use Rattle.rl_defs.specs.CodeNames.{label_of, place_of_label}
 use Rattle.rl_defs.specs.LineRows.{number_named, type_named, Leads, Names}
 use Rattle.rl_defs.specs.Checked.{IsWithin, IsRow, emptied_on}
 use Rattle.rl_defs.proofs.Places.{get_last}

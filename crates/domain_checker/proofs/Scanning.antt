@@ -10,7 +10,7 @@ use Rattle.rl_defs.specs.declared.checked.LineRow.{LineRow}
 use Rattle.rl_defs.specs.DomainValue.{Domain}
 use Rattle.rl_defs.specs.Refusals.{IsFirst, Nowhere}
 use Rattle.rl_defs.specs.CodeRules.{FailsCode, breaks}
-use Rattle.rl_defs.specs.CodeFits.{LinesRise}
+use Rattle.rl_defs.specs.DomainParts.{LinesRise}
 use Rattle.domain_checker.specs.Lowest.{IsLowest}
 use Rattle.domain_checker.specs.Keeping.{AreRows, NoneBefore}
 

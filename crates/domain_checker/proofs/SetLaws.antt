@@ -7,7 +7,7 @@ use Rattle.std.proofs.lemmas.Bool.Decides.{eqb_tells}
 use Rattle.std.proofs.lemmas.Nat.{mod_below}
 use Rattle.std.proofs.lemmas.Nat.Bits.{bit_at-zero, bit_at_and, bit_at_or, bit_at-pow_same, bit_at-pow_other, bit_at_ones}
 use Rattle.rl_defs.specs.declared.code.HeadItem.{HeadItem}
-use Rattle.rl_defs.specs.Instructions.{is_listed}
+use Rattle.rl_defs.specs.Registers.{is_listed}
 use Rattle.domain_checker.specs.Heads.{is_in, all_registers, with_items}
 
 min_of_bits : (a b : ℕ) → a < 2 → b < 2 → (min a b == 1) ≡ ((a == 1) && (b == 1))

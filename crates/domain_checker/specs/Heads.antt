@@ -11,7 +11,7 @@ use Rattle.rl_defs.specs.declared.code.DomainLine.{DomainLine}
 use Rattle.rl_defs.specs.declared.code.DomainLine.TheVariants as line
 use Rattle.rl_defs.specs.Domains.{Lines}
 use Rattle.rl_defs.specs.CodeKinds.{Kinds}
-use Rattle.rl_defs.specs.Instructions.{Registers, is_listed}
+use Rattle.rl_defs.specs.Registers.{Registers, is_listed}
 use Rattle.domain_checker.specs.declared.ways.Run.{Run}
 
 -- A set of registers is a number: a register is in it where its bit is 1.

@@ -8,7 +8,7 @@ use Rattle.rl_defs.specs.Interfaces.{place_of}
 use Rattle.rl_defs.specs.Domains.{Lines}
 use Rattle.rl_defs.specs.CodeNames.{Declared, rows_of, methods_of}
 use Rattle.rl_defs.specs.declared.tables.TraitRow.{TraitRow}
-use Rattle.rl_defs.specs.CodeFits.{AreTablesSmall}
+use Rattle.rl_defs.specs.TableSizes.{AreTablesSmall}
 
 abbrev pub or_else : Option ℕ → Option ℕ → Option ℕ
 or_else first other = if is_some first then first else other

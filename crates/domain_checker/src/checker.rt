@@ -4,7 +4,8 @@ ghost use Rattle.rl_defs.specs.DomainValue.{Domain};
 ghost use Rattle.rl_defs.specs.Domains.{body_of_function};
 ghost use Rattle.rl_defs.specs.Refusals.{Answers};
 ghost use Rattle.rl_defs.specs.CodeRules.{FailsCode};
-ghost use Rattle.rl_defs.specs.CodeFits.{AreTablesSmall, IsOneDomain, LinesRise};
+ghost use Rattle.rl_defs.specs.TableSizes.{AreTablesSmall};
+ghost use Rattle.rl_defs.specs.DomainParts.{IsOneDomain, LinesRise};
 ghost use Rattle.domain_checker.specs.Keeping.{IsKept};
 
 use crate::rows::Kept;
@@ -12,13 +13,13 @@ use crate::scan::scan;
 use crate::scope::Scope;
 use crate::tables::NamedTables;
 use crate::ways::Ways;
+use rl_defs::LoadFault;
 use rl_defs::bundle::Numbered;
 use rl_defs::checked::CheckedDomain;
 use rl_defs::code::{DomainLine, DomainText};
 use rl_defs::name::Name;
 use rl_defs::tables::{MethodRow, SharedTables};
-use rl_defs::{LoadFault, Memory};
-use std::alloc::Global;
+use std::alloc::{AllocError, Global};
 use std::marker::Model;
 
 /// A checker of domains whose names are looked up in one set of tables. It is made once, and no check goes over the tables. Contracts see
@@ -52,15 +53,13 @@ fn entry_of(scope: &Scope, name: &Name) -> u32
 }
 
 // Where the functions for methods begin.
-fn entries_of(alloc: Global, scope: &Scope, methods: &[MethodRow]) -> Result<Vec<u32>, Memory>
-    ensures { IfOk result (λ entries. entries.items ≡ map (λ m. body_of_function scope.now.lines m.name) methods.now) }
+fn entries_of(alloc: Global, scope: &Scope, methods: &[MethodRow]) -> Result<Vec<u32>, AllocError>
+    ensures { let begins = map (λ m. body_of_function scope.now.lines m.name) methods.now in
+        IfOk result (λ entries. entries.items ≡ begins) }
 {
     let mut entries = Vec::new(alloc);
     'methods: for method in methods {
-        match entries.push(entry_of(scope, &method.name)) {
-            Ok(()) => {}
-            Err(_) => return Err(Memory),
-        }
+        entries.push(entry_of(scope, &method.name))?;
     }
     Ok(entries)
 }
@@ -73,27 +72,19 @@ fn kept_beside(
 ) -> Result<Whole, LoadFault>
     requires short { length lines.now < 2 ^ 31 }
     requires rises { LinesRise lines.now }
-    ensures { let d : Domain = record { lines = lines.now; tables = tables.now } in Answers (FailsCode d) (λ w. IsKept d w.kept.emptied.items w.kept.rows.items w.entries.items) result }
+    ensures { let d : Domain = record { lines = lines.now; tables = tables.now } in
+        Answers (FailsCode d) (λ w. IsKept d w.kept.emptied.items w.kept.rows.items w.entries.items) result }
 {
-    let Ok(scope) = Scope::new(alloc, tables, lines) else {
-        return Err(LoadFault::Memory);
-    };
-    let Ok(ways) = Ways::new(alloc, lines) else {
-        return Err(LoadFault::Memory);
-    };
-    let kept = match scan(alloc, &scope, &ways) {
-        Ok(kept) => kept,
-        Err(fault) => return Err(fault),
-    };
-    match entries_of(alloc, &scope, tables.methods(scope.domain_trait())) {
-        Ok(entries) => Ok(Whole { kept, entries }),
-        Err(_) => Err(LoadFault::Memory),
-    }
+    let scope = Scope::new(alloc, tables, lines)?;
+    let ways = Ways::new(alloc, lines)?;
+    let kept = scan(alloc, &scope, &ways)?;
+    let entries = entries_of(alloc, &scope, tables.methods(scope.domain_trait()))?;
+    Ok(Whole { kept, entries })
 }
 
 impl Checker {
     /// The checker of domains over these tables.
-    pub fn new(alloc: Global, tables: SharedTables) -> Result<Checker, Memory>
+    pub fn new(alloc: Global, tables: SharedTables) -> Result<Checker, AllocError>
         requires { AreTablesSmall tables }
         ensures { IfOk result (λ c. c ≡ tables) }
     {
@@ -107,15 +98,11 @@ impl Checker {
         requires short { length text.lines < 2 ^ 31 }
         requires ordered { IsOneDomain text.lines }
         requires rises { LinesRise text.lines }
-        ensures { let d : Domain = record { lines = text.lines; tables = self.now } in Answers (FailsCode d) (λ checked. checked ≡ d) result }
+        ensures { let d : Domain = record { lines = text.lines; tables = self.now } in
+            Answers (FailsCode d) (λ checked. checked ≡ d) result }
     {
-        let whole = match kept_beside(alloc, &self.tables, text.lines.as_slice()) {
-            Ok(whole) => whole,
-            Err(fault) => return Err(fault),
-        };
-        let Ok(tables) = self.tables.share() else {
-            return Err(LoadFault::Memory);
-        };
+        let whole = kept_beside(alloc, &self.tables, text.lines.as_slice())?;
+        let tables = self.tables.share()?;
         Ok(CheckedDomain::new(
             text,
             tables,
@@ -124,26 +111,4 @@ impl Checker {
             whole.entries,
         ))
     }
-}
-
-/// The domain of a text that keeps the rules with these tables, or the first line that one of the rules 30 to 37 refuses, with the lowest of
-/// these rules there. It makes a checker: where there are many domains, make one for all.
-pub fn check(
-    alloc: Global,
-    tables: &SharedTables,
-    text: DomainText,
-) -> Result<CheckedDomain, LoadFault>
-    requires short { length text.lines < 2 ^ 31 }
-    requires ordered { IsOneDomain text.lines }
-    requires rises { LinesRise text.lines }
-    requires small { AreTablesSmall tables.now }
-    ensures { let d : Domain = record { lines = text.lines; tables = tables.now } in Answers (FailsCode d) (λ checked. checked ≡ d) result }
-{
-    let Ok(shared) = tables.share() else {
-        return Err(LoadFault::Memory);
-    };
-    let Ok(checker) = Checker::new(alloc, shared) else {
-        return Err(LoadFault::Memory);
-    };
-    checker.check(alloc, text)
 }

@@ -9,7 +9,7 @@ ghost use Rattle.rl_defs.specs.CodeRules.{declares, has_its_words, has_import, h
 use crate::effects::method_called;
 use crate::here::Here;
 use crate::kinds::kind_in;
-use crate::native::{has_other_shape, has_other_structs, import_of};
+use crate::native::{are_of_shape, have_one_struct, import_of};
 use crate::scope::Scope;
 use rl_defs::code::{CallArg, DomainLine, Instr, Native, Register};
 use rl_defs::tables::MethodRow;
@@ -125,7 +125,7 @@ pub fn has_shape(scope: &Scope, form: &DomainLine) -> bool
     ensures { result ≡ has_shape scope.now form.now }
 {
     match form {
-        DomainLine::Native(body) => !has_other_shape(
+        DomainLine::Native(body) => are_of_shape(
             scope.tables(),
             *body,
             own_methods(scope),
@@ -141,7 +141,7 @@ pub fn has_one_struct(scope: &Scope, form: &DomainLine) -> bool
 {
     match form {
         DomainLine::Native(body) => {
-            !has_other_structs(*body, own_methods(scope), import_methods(scope, *body))
+            have_one_struct(*body, own_methods(scope), import_methods(scope, *body))
         }
         _ => true,
     }

@@ -9,12 +9,11 @@ ghost use Rattle.domain_checker.specs.Numbering.{noted, body_from, AreDeclared};
 use crate::names::{NameTable, note};
 use crate::tables::NamedTables;
 use indexmap::IndexMap;
-use rl_defs::Memory;
 use rl_defs::bundle::Numbered;
 use rl_defs::code::DomainLine;
 use rl_defs::list::List;
 use rl_defs::name::Name;
-use std::alloc::Global;
+use std::alloc::{AllocError, Global};
 
 // So many bodies are looked for among the lines, and more in a table.
 const FEW: usize = 4;
@@ -36,9 +35,11 @@ fn nothing(alloc: Global) -> Declarations
     }
 }
 
-fn declare(declared: &mut Declarations, name: &Name, number: u32) -> Result<(), Memory>
+fn declare(declared: &mut Declarations, name: &Name, number: u32) -> Result<(), AllocError>
     requires { length declared.old.types < 2 ^ 32 }
-    ensures places { OnOk result ((q : List ℕ) → get (pointwise nat_eq) declared.new.places q ≡ noted (get (pointwise nat_eq) declared.old.places) name.now (length declared.old.types) q) }
+    ensures places { let before = get (pointwise nat_eq) declared.old.places in
+        let after = get (pointwise nat_eq) declared.new.places in
+        OnOk result ((q : List ℕ) → after q ≡ noted before name.now (length declared.old.types) q) }
     ensures types { OnOk result (declared.new.types ≡ declared.old.types ++ number ∷ []) }
 {
     let place = declared.types.len() as u32;
@@ -51,9 +52,10 @@ pub fn slots_of(
     alloc: Global,
     tables: &NamedTables,
     lines: &[Numbered<DomainLine>],
-) -> Result<Declarations, Memory>
+) -> Result<Declarations, AllocError>
     requires { length lines.now < 2 ^ 31 }
-    ensures { IfOk result (λ d. AreDeclared (get (pointwise nat_eq) d.places) d.types (struct_number tables.now) (slots lines.now)) }
+    ensures { let number_of = struct_number tables.now in
+        IfOk result (λ d. AreDeclared (get (pointwise nat_eq) d.places) d.types number_of (slots lines.now)) }
 {
     let mut declared = nothing(alloc);
     'lines: for line in lines {
@@ -69,9 +71,10 @@ pub fn imports_of(
     alloc: Global,
     tables: &NamedTables,
     lines: &[Numbered<DomainLine>],
-) -> Result<Declarations, Memory>
+) -> Result<Declarations, AllocError>
     requires { length lines.now < 2 ^ 31 }
-    ensures { IfOk result (λ d. AreDeclared (get (pointwise nat_eq) d.places) d.types (trait_number tables.now) (imports lines.now)) }
+    ensures { let number_of = trait_number tables.now in
+        IfOk result (λ d. AreDeclared (get (pointwise nat_eq) d.places) d.types number_of (imports lines.now)) }
 {
     let mut declared = nothing(alloc);
     'lines: for line in lines {
@@ -102,7 +105,7 @@ fn bodies_of(
     alloc: Global,
     lines: &[Numbered<DomainLine>],
     count: usize,
-) -> Result<NameTable, Memory>
+) -> Result<NameTable, AllocError>
     requires { length lines.now < 2 ^ 31 }
     ensures { IfOk result (λ t. (q : List ℕ) → get (pointwise nat_eq) t q ≡ body_from q lines.now 0) }
 {
@@ -120,9 +123,10 @@ pub fn bodies_of_many(
     alloc: Global,
     lines: &[Numbered<DomainLine>],
     count: usize,
-) -> Result<Option<NameTable>, Memory>
+) -> Result<Option<NameTable>, AllocError>
     requires { length lines.now < 2 ^ 31 }
-    ensures { IfOk result (λ o. IfSome o (λ t. (q : List ℕ) → get (pointwise nat_eq) t q ≡ body_from q lines.now 0)) }
+    ensures { IfOk result (λ o. IfSome o (λ t. (q : List ℕ)
+        → get (pointwise nat_eq) t q ≡ body_from q lines.now 0)) }
 {
     if count <= FEW {
         return Ok(None);
@@ -148,13 +152,10 @@ fn count_heads(lines: &[Numbered<DomainLine>], first: usize) -> usize
 }
 
 // A table with room for so many names. It takes no memory where there are none.
-fn room_for(alloc: Global, count: usize) -> Result<NameTable, Memory>
+fn room_for(alloc: Global, count: usize) -> Result<NameTable, AllocError>
     ensures { IfOk result (λ t. (q : List ℕ) → get (pointwise nat_eq) t q ≡ None) }
 {
-    match IndexMap::with_capacity(alloc, count) {
-        Ok(table) => Ok(table),
-        Err(_) => Err(Memory),
-    }
+    IndexMap::with_capacity(alloc, count)
 }
 
 /// The places of the labels of the function whose body begins at a place.
@@ -162,10 +163,11 @@ pub fn labels_from(
     alloc: Global,
     lines: &[Numbered<DomainLine>],
     first: usize,
-) -> Result<NameTable, Memory>
+) -> Result<NameTable, AllocError>
     requires short { length lines.now < 2 ^ 31 }
     requires within { first ≤ length lines.now }
-    ensures { IfOk result (λ t. (q : List ℕ) → get (pointwise nat_eq) t q ≡ find_label q (drop first lines.now) first) }
+    ensures { IfOk result (λ t. (q : List ℕ)
+        → get (pointwise nat_eq) t q ≡ find_label q (drop first lines.now) first) }
 {
     let mut labels = room_for(alloc, count_heads(lines, first))?;
     'lines: for place in first..lines.len() {

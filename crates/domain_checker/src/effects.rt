@@ -3,7 +3,7 @@ ghost use Rattle.std.specs.Prelude.{◌≡◌, ℕ, length, drop, map, IfSome};
 ghost use Rattle.std.specs.Option.{option_copied};
 ghost use Rattle.rl_defs.specs.CodeNames.{params_of, results_of};
 ghost use Rattle.rl_defs.specs.CodeKinds.{method_called, hung_in, hung_at, own_kind, writes, put_all, put_from, after, after_line, at_label, listed_kind, listed, no_kinds};
-ghost use Rattle.rl_defs.specs.CodeFits.{IsMethodSmall};
+ghost use Rattle.rl_defs.specs.TableSizes.{IsMethodSmall};
 
 use crate::kinds::{
     Kinds, empty_all, kind_in, leave_all, leave_moved, leave_passed, put_kind, put_pairs,

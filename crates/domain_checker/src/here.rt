@@ -5,8 +5,8 @@ ghost use Rattle.indexmap.specs.IndexMap.{get};
 ghost use Rattle.rl_defs.specs.declared.code.DomainLine.TheVariants as Form;
 ghost use Rattle.rl_defs.specs.CodeNames.{label_at, function_at};
 ghost use Rattle.rl_defs.specs.LineRows.{number_of_function};
-ghost use Rattle.rl_defs.specs.CodeRules.{label_of, place_of_label};
-ghost use Rattle.rl_defs.specs.Instructions.{label_of_form};
+ghost use Rattle.rl_defs.specs.CodeNames.{label_of, place_of_label};
+ghost use Rattle.rl_defs.specs.CodeNames.{label_of_form};
 ghost use Rattle.domain_checker.specs.Knowing.{Known};
 
 use crate::declared::labels_from;
@@ -16,12 +16,11 @@ use crate::kinds::{Kinds, no_kinds};
 use crate::names::NameTable;
 use crate::scope::Scope;
 use indexmap::IndexMap;
-use rl_defs::Memory;
 use rl_defs::bundle::Numbered;
 use rl_defs::code::{DomainLine, Instr};
 use rl_defs::name::Name;
 use rl_defs::tables::Kind;
-use std::alloc::Global;
+use std::alloc::{AllocError, Global};
 
 /// A place among the lines of a domain, and what is known before the line there.
 #[derive(Drop)]
@@ -108,7 +107,7 @@ fn enter(
     here: &mut Here,
     line: &Numbered<DomainLine>,
     name: &Name,
-) -> Result<(), Memory>
+) -> Result<(), AllocError>
     requires here { slice_get here.old.scope.now.lines here.old.place ≡ Some line.now }
     requires name { line.now.form ≡ Form.Function name.now }
     ensures scope { OnOk result (here.new.scope.now ≡ here.old.scope.now) }
@@ -161,7 +160,7 @@ fn go_on(here: &mut Here, line: &Numbered<DomainLine>)
 }
 
 /// Goes on to the next line.
-pub fn next(alloc: Global, here: &mut Here, line: &Numbered<DomainLine>) -> Result<(), Memory>
+pub fn next(alloc: Global, here: &mut Here, line: &Numbered<DomainLine>) -> Result<(), AllocError>
     requires { slice_get here.old.scope.now.lines here.old.place ≡ Some line.now }
     ensures scope { OnOk result (here.new.scope.now ≡ here.old.scope.now) }
     ensures place { OnOk result (here.new.place ≡ here.old.place + 1) }

@@ -2,8 +2,9 @@
 ghost use Rattle.std.specs.Prelude.{◌≡◌, ℕ, length, drop, map};
 ghost use Rattle.std.specs.List.{list_all};
 ghost use Rattle.rl_defs.specs.CodeKinds.{Kinds as KindList, at_label, listed, kind_in};
-ghost use Rattle.rl_defs.specs.CodeRules.{same_kind, without, owns_nothing, enters, enters_at, enters_label, enters_head, place_of_label, names_label, goes_on, ends_before};
-ghost use Rattle.rl_defs.specs.Instructions.{label_of_form};
+ghost use Rattle.rl_defs.specs.CodeRules.{same_kind, without, owns_nothing, enters, enters_at, enters_label, enters_head, names_label, goes_on, ends_before};
+ghost use Rattle.rl_defs.specs.CodeNames.{place_of_label};
+ghost use Rattle.rl_defs.specs.CodeNames.{label_of_form};
 ghost use Rattle.rl_defs.specs.DomainParts.{ends};
 
 use crate::effects::{kinds_at_label, listed_kind};

@@ -2,7 +2,7 @@
 //! section 3.1).
 #![tactic(auto)]
 
-pub mod checker;
+mod checker;
 mod claims;
 mod declared;
 mod effects;
@@ -19,3 +19,5 @@ mod scan;
 mod scope;
 mod tables;
 mod ways;
+
+pub use checker::Checker;

@@ -4,7 +4,7 @@ ghost use Rattle.std.specs.List.{list_all, zip};
 ghost use Rattle.rl_defs.specs.DomainValue.{Domain};
 ghost use Rattle.rl_defs.specs.Words.{same_bytes};
 ghost use Rattle.rl_defs.specs.NativeShapes as natives;
-ghost use Rattle.rl_defs.specs.NativeShapes.{is_number, has_cells, serves, is_shape, are_shapes, same_mark, is_method, are_methods, same_role, put_where, are_one, structs_for, structs_in, own_methods, import_methods, has_other_shape, has_other_structs};
+ghost use Rattle.rl_defs.specs.NativeShapes.{is_number, has_cells, serves, is_shape, are_shapes, same_mark, is_method, are_methods, same_role, put_where, are_one, structs_for, structs_in, own_methods, import_methods, are_of_shape, have_one_struct};
 ghost use Rattle.domain_checker.specs.Shapes.{role_meant, shape_meant, shapes_meant, method_meant, methods_meant};
 ghost use Rattle.domain_checker.specs.OneStruct.{with_struct, with_all, is_one};
 
@@ -312,17 +312,18 @@ fn are_methods(tables: &NamedTables, shapes: &[MethodShape], rows: &[MethodRow])
     shapes.len() == rows.len() && suit_methods(tables, shapes, rows)
 }
 
-/// Whether the trait of a domain, or that of its native body's import, is not of the body's shape. `own` are the methods of the
+/// Whether the trait of a domain, and that of its native body's import, are of the body's shapes. `own` are the methods of the
 /// domain's trait, `theirs` those of the import's.
-pub(crate) fn has_other_shape(
+pub(crate) fn are_of_shape(
     tables: &NamedTables,
     body: Native,
     own: &[MethodRow],
     theirs: &[MethodRow],
 ) -> bool
-    ensures { (d : Domain) → d.tables ≡ tables.now → own_methods d ≡ own.now → import_methods d body ≡ theirs.now → result ≡ has_other_shape d body }
+    ensures { (d : Domain) → d.tables ≡ tables.now → own_methods d ≡ own.now → import_methods d body ≡ theirs.now
+        → result ≡ are_of_shape d body }
 {
-    !(are_methods(tables, shape_of(body), own) && are_methods(tables, import_shape(body), theirs))
+    are_methods(tables, shape_of(body), own) && are_methods(tables, import_shape(body), theirs)
 }
 
 // The structs at some places and at one place more.
@@ -377,7 +378,9 @@ fn with_role(role: Role, found: Found, has: Role, number: u32) -> Found
 
 // With the structs at the places that are for this role.
 fn with_places(role: Role, found: Found, shapes: &[Shape], kinds: &[Kind]) -> Found
-    ensures { result ≡ fold (λ f p. with_all f (structs_for (role_meant role) (shape_meant p.0 ∷ []) (p.1 ∷ []))) found (zip shapes.now kinds.now) }
+    ensures { let places = zip shapes.now kinds.now in
+        result ≡ fold (λ f p. with_all f
+        (structs_for (role_meant role) (shape_meant p.0 ∷ []) (p.1 ∷ []))) found places }
 {
     shapes.iter().zip(kinds).fold(
         found,
@@ -393,7 +396,9 @@ fn with_method(role: Role, found: Found, shape: &MethodShape, row: &MethodRow) -
 }
 
 fn with_methods(role: Role, found: Found, shapes: &[MethodShape], rows: &[MethodRow]) -> Found
-    ensures { result ≡ fold (λ f p. with_all f (structs_in (role_meant role) (method_meant p.0 ∷ []) (p.1 ∷ []))) found (zip shapes.now rows.now) }
+    ensures { let methods = zip shapes.now rows.now in
+        result ≡ fold (λ f p. with_all f
+        (structs_in (role_meant role) (method_meant p.0 ∷ []) (p.1 ∷ []))) found methods }
 {
     shapes.iter().zip(rows).fold(
         found,
@@ -402,17 +407,20 @@ fn with_methods(role: Role, found: Found, shapes: &[MethodShape], rows: &[Method
 }
 
 fn has_one(role: Role, body: Native, own: &[MethodRow], theirs: &[MethodRow]) -> bool
-    ensures { result ≡ are_one (structs_in (role_meant role) (natives.shape_of body) own.now ++ structs_in (role_meant role) (natives.import_shape body) theirs.now) }
+    ensures { let meant = role_meant role in
+        result ≡ are_one (structs_in meant (natives.shape_of body) own.now
+        ++ structs_in meant (natives.import_shape body) theirs.now) }
 {
     let found = with_methods(role, Found::Nothing, shape_of(body), own);
     is_one(with_methods(role, found, import_shape(body), theirs))
 }
 
-/// Whether two places of the traits of a domain and of its native body's import, that have to be of one struct, are of two.
-pub(crate) fn has_other_structs(body: Native, own: &[MethodRow], theirs: &[MethodRow]) -> bool
-    ensures { (d : Domain) → own_methods d ≡ own.now → import_methods d body ≡ theirs.now → result ≡ has_other_structs d body }
+/// Whether the traits of a domain and of its native body's import have one struct at the places that have to be of one.
+pub(crate) fn have_one_struct(body: Native, own: &[MethodRow], theirs: &[MethodRow]) -> bool
+    ensures { (d : Domain) → own_methods d ≡ own.now → import_methods d body ≡ theirs.now
+        → result ≡ have_one_struct d body }
 {
-    !(has_one(Role::Block, body, own, theirs)
+    has_one(Role::Block, body, own, theirs)
         && has_one(Role::FileName, body, own, theirs)
-        && has_one(Role::Buffer, body, own, theirs))
+        && has_one(Role::Buffer, body, own, theirs)
 }

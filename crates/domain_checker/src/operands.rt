@@ -3,7 +3,8 @@ ghost use Rattle.std.specs.Prelude.{◌≡◌, ℕ, ◌≤◌, length, drop, map
 ghost use Rattle.std.specs.List.{list_all};
 ghost use Rattle.rl_defs.specs.CodeNames.{slots, place_in};
 ghost use Rattle.rl_defs.specs.CodeKinds.{Number, Copied, Owned, Object, Target, Passed, read, read_of_arg, kind_in};
-ghost use Rattle.rl_defs.specs.CodeRules.{meets, is_met, reads_are_met, object_struct, is_struct, suits, args_suit, results_suit, holds_block, suits_slot, suits_cell, operands_suit, names_cell, has_kinds, has_cell, is_among, are_distinct, are_apart, has_apart};
+ghost use Rattle.rl_defs.specs.CodeRules.{meets, is_met, reads_are_met, is_struct, passes_as, args_suit, results_suit, holds_block, suits_slot, suits_cell, operands_suit, has_kinds, has_cell, is_among, are_distinct, has_apart};
+ghost use Rattle.rl_defs.specs.CodeKinds.{object_struct};
 
 use crate::effects::{hung_at, method_called, params_of};
 use crate::here::Here;
@@ -143,8 +144,8 @@ fn is_struct(s: u32, of: Option<u32>) -> bool
     }
 }
 
-fn suits(kinds: &Kinds, param: Kind, arg: &CallArg) -> bool
-    ensures { result ≡ suits kinds.now param arg.now }
+fn passes_as(kinds: &Kinds, param: Kind, arg: &CallArg) -> bool
+    ensures { result ≡ passes_as kinds.now param arg.now }
 {
     match (param, arg) {
         (Kind::Lent(s), CallArg::Lent(register)) => {
@@ -164,7 +165,7 @@ fn args_suit(kinds: &Kinds, params: &[Kind], args: &[CallArg]) -> bool
         if k >= params.len() {
             return true;
         }
-        if !suits(kinds, params[k], &args[k]) {
+        if !passes_as(kinds, params[k], &args[k]) {
             return false;
         }
     }

@@ -2,7 +2,7 @@
 ghost use Rattle.std.specs.Prelude.{◌≡◌, ℕ, ◌+◌, ◌<◌, Some, length, slice_get, slice_range, unwrap_or, IfOk, IfSome, OnOk};
 ghost use Rattle.rl_defs.specs.declared.tables.Tables.{Tables};
 ghost use Rattle.rl_defs.specs.CodeKinds.{at_label};
-ghost use Rattle.rl_defs.specs.Instructions.{trait_of_kind};
+ghost use Rattle.rl_defs.specs.CodeKinds.{trait_of_kind};
 ghost use Rattle.rl_defs.specs.LineRows.{number_named, type_named, Leads};
 ghost use Rattle.rl_defs.specs.Checked.{IsWithin, IsRow};
 ghost use Rattle.domain_checker.specs.Heads.{Grows};
@@ -14,10 +14,10 @@ use crate::kinds::{Kinds, kind_in};
 use crate::operands::object_struct;
 use crate::rules::is_plain;
 use crate::ways::Ways;
-use rl_defs::Memory;
 use rl_defs::bundle::Numbered;
 use rl_defs::checked::{LineRow, Way};
 use rl_defs::code::{DomainLine, Instr, RegKind, Register};
+use std::alloc::AllocError;
 
 /// What is kept beside the lines so far: a row for each, and the registers that heads empty.
 #[derive(Drop)]
@@ -75,10 +75,12 @@ fn jump_way(
     instr: &Instr,
     to: Option<u32>,
     otherwise: Way,
-) -> Result<Way, Memory>
+) -> Result<Way, AllocError>
     requires label { IfSome to (λ p. p < length ways.now.lines.now) }
     requires within { IsWithin emptied.old.items otherwise }
-    ensures leads { IfOk result (λ way. (tables : Tables) (p : ℕ) → to ≡ Some p → Leads (record { lines = ways.now.lines.now; tables = tables }) (at_label kinds.now instr.now) p way.line (slice_range emptied.new.items way.from way.to)) }
+    ensures leads { IfOk result (λ way. (tables : Tables) (p : ℕ) → to ≡ Some p
+        → Leads (record { lines = ways.now.lines.now; tables = tables }) (at_label kinds.now instr.now) p way.line
+        (slice_range emptied.new.items way.from way.to)) }
     ensures within { IfOk result (IsWithin emptied.new.items) }
     ensures grows { OnOk result (Grows 32 emptied.old.items emptied.new.items) }
 {
@@ -111,7 +113,7 @@ fn row_of(
     here: &Here,
     line: &Numbered<DomainLine>,
     emptied: &mut Vec<Register>,
-) -> Result<LineRow, Memory>
+) -> Result<LineRow, AllocError>
     requires lines { ways.now.lines.now ≡ here.now.scope.now.lines }
     requires here { slice_get here.now.scope.now.lines here.now.place ≡ Some line.now }
     ensures row { IfOk result (IsRow here.now.scope.now emptied.new.items here.now.place) }
@@ -143,15 +145,13 @@ pub fn keep(
     ways: &Ways,
     here: &Here,
     line: &Numbered<DomainLine>,
-) -> Result<(), Memory>
+) -> Result<(), AllocError>
     requires lines { ways.now.lines.now ≡ here.now.scope.now.lines }
     requires here { slice_get here.now.scope.now.lines here.now.place ≡ Some line.now }
     requires rows { AreRows here.now.scope.now kept.old.emptied.items kept.old.rows.items here.now.place }
     ensures { OnOk result (AreRows here.now.scope.now kept.new.emptied.items kept.new.rows.items (here.now.place + 1)) }
 {
     let row = row_of(ways, here, line, &mut kept.emptied)?;
-    match kept.rows.push(row) {
-        Ok(()) => Ok(()),
-        Err(_) => Err(Memory),
-    }
+    kept.rows.push(row)?;
+    Ok(())
 }

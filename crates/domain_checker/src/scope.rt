@@ -9,11 +9,10 @@ use crate::declared::{
 };
 use crate::names::NameTable;
 use crate::tables::NamedTables;
-use rl_defs::Memory;
 use rl_defs::bundle::Numbered;
 use rl_defs::code::DomainLine;
 use rl_defs::name::Name;
-use std::alloc::Global;
+use std::alloc::{AllocError, Global};
 use std::marker::Model;
 
 /// The lines of a domain and the tables that its names are looked up in, with look-ups. Contracts see the domain.
@@ -41,7 +40,10 @@ impl<'a> Model for Scope<'a> {
 
     ghost view = { λ s. record { lines = s.lines.now; tables = s.tables.now } };
 
-    ghost invariant = { λ s. IsScope (record { lines = s.lines.now; tables = s.tables.now }) s.of (get (pointwise nat_eq) s.slots.places) s.slots.types (get (pointwise nat_eq) s.imports.places) s.imports.types (get (pointwise nat_eq)) s.bodies s.words s.native };
+    ghost invariant = { λ s. IsScope (record { lines = s.lines.now; tables = s.tables.now })
+        s.of (get (pointwise nat_eq) s.slots.places) s.slots.types
+        (get (pointwise nat_eq) s.imports.places) s.imports.types
+        (get (pointwise nat_eq)) s.bodies s.words s.native };
 }
 
 impl<'a> Scope<'a> {
@@ -50,7 +52,7 @@ impl<'a> Scope<'a> {
         alloc: Global,
         tables: &'a NamedTables,
         lines: &'a [Numbered<DomainLine>],
-    ) -> Result<Scope<'a>, Memory>
+    ) -> Result<Scope<'a>, AllocError>
         requires { length lines.now < 2 ^ 31 }
         ensures { IfOk result (λ s. s ≡ record { lines = lines.now; tables = tables.now }) }
     {

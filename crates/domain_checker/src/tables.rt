@@ -5,14 +5,13 @@ ghost use Rattle.std.specs.Cmp.Lexicographic.{pointwise};
 ghost use Rattle.indexmap.specs.IndexMap.{get};
 ghost use Rattle.rl_defs.specs.declared.tables.TraitRow.{TraitRow as Row};
 ghost use Rattle.rl_defs.specs.CodeNames.{struct_number, trait_number, cells_of, methods_of, method_number, row_at, method_named};
-ghost use Rattle.rl_defs.specs.CodeFits.{AreTablesSmall, IsMethodSmall};
+ghost use Rattle.rl_defs.specs.TableSizes.{AreTablesSmall, IsMethodSmall};
 ghost use Rattle.domain_checker.specs.Numbering.{AreLooks};
 
 use crate::names::{NameTable, methods_by_name, structs_by_name, traits_by_name};
-use rl_defs::Memory;
 use rl_defs::name::Name;
 use rl_defs::tables::{Kind, MethodRow, SharedTables, TraitRow};
-use std::alloc::Global;
+use std::alloc::{AllocError, Global};
 use std::marker::Model;
 
 /// Tables, with look-ups of their structs, traits and methods. Contracts see the tables.
@@ -35,20 +34,20 @@ impl Model for NamedTables {
 
     ghost view = { λ n. n.tables };
 
-    ghost invariant = { λ n. AreLookUps n.tables (get (pointwise nat_eq) n.structs) (get (pointwise nat_eq) n.traits) (λ t. look_in (get (pointwise nat_eq)) (slice_get n.methods.items t)) };
+    ghost invariant = { λ n. AreLookUps n.tables
+        (get (pointwise nat_eq) n.structs) (get (pointwise nat_eq) n.traits)
+        (λ t. look_in (get (pointwise nat_eq)) (slice_get n.methods.items t)) };
 }
 
-fn push(all: &mut Vec<NameTable>, table: NameTable) -> Result<(), Memory>
+fn push(all: &mut Vec<NameTable>, table: NameTable) -> Result<(), AllocError>
     ensures { OnOk result (all.new.items ≡ all.old.items ++ table ∷ []) }
 {
-    match all.push(table) {
-        Ok(()) => Ok(()),
-        Err(_) => Err(Memory),
-    }
+    all.push(table)?;
+    Ok(())
 }
 
 // The methods of each trait by their names.
-fn methods_of_traits(alloc: Global, traits: &[TraitRow]) -> Result<Vec<NameTable>, Memory>
+fn methods_of_traits(alloc: Global, traits: &[TraitRow]) -> Result<Vec<NameTable>, AllocError>
     requires { (t : ℕ) (row : Row) → slice_get traits.now t ≡ Some row → length row.methods < 2 ^ 32 }
     ensures { IfOk result (λ all. AreLooks (get (pointwise nat_eq)) all.items traits.now) }
 {
@@ -62,7 +61,7 @@ fn methods_of_traits(alloc: Global, traits: &[TraitRow]) -> Result<Vec<NameTable
 
 impl NamedTables {
     /// These tables, with their look-ups.
-    pub fn new(alloc: Global, tables: SharedTables) -> Result<NamedTables, Memory>
+    pub fn new(alloc: Global, tables: SharedTables) -> Result<NamedTables, AllocError>
         requires { AreTablesSmall tables }
         ensures { IfOk result (λ n. n ≡ tables) }
     {
@@ -79,7 +78,7 @@ impl NamedTables {
     }
 
     /// The same tables, for one owner more.
-    pub fn share(&self) -> Result<SharedTables, Memory>
+    pub fn share(&self) -> Result<SharedTables, AllocError>
         ensures shared { IfOk result (λ t. t ≡ self.now) }
         ensures small { AreTablesSmall self.now }
     {

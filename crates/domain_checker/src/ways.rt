@@ -7,12 +7,11 @@ ghost use Rattle.rl_defs.specs.Checked.{IsWithin};
 ghost use Rattle.domain_checker.specs.Heads.{is_in, with_items, run_form, run_at, is_head, AreRuns, AreKept, is_emptied, Puts, Grows};
 
 use crate::kinds::{Kinds, all_kinds, holds_any, holds_some};
-use rl_defs::Memory;
 use rl_defs::bundle::Numbered;
 use rl_defs::checked::Way;
 use rl_defs::code::{DomainLine, HeadItem, RegKind, Register};
 use rl_defs::list::List;
-use std::alloc::Global;
+use std::alloc::{AllocError, Global};
 
 // So many registers in a pool leave no room for 32 more that a `u32` can count.
 const FULL: usize = u32::MAX as usize - 31;
@@ -37,7 +36,10 @@ pub(crate) struct Ways<'a> {
 
 impl<'a> Ways<'a> {
     /// The ways of these lines.
-    pub(crate) fn new(alloc: Global, lines: &'a [Numbered<DomainLine>]) -> Result<Ways<'a>, Memory>
+    pub(crate) fn new(
+        alloc: Global,
+        lines: &'a [Numbered<DomainLine>],
+    ) -> Result<Ways<'a>, AllocError>
         requires { length lines.now < 2 ^ 31 }
         ensures { IfOk result (λ ways. ways.lines.now ≡ lines.now) }
     {
@@ -60,21 +62,23 @@ impl<'a> Ways<'a> {
     }
 
     /// The way of a frame that comes to a place with registers of these kinds. The registers that are emptied on the way are put last in
-    /// the pool: those that aren't empty and that a head on the way doesn't list. `Memory` also where the pool has 2^32 - 32
+    /// the pool: those that aren't empty and that a head on the way doesn't list. `AllocError` also where the pool has 2^32 - 32
     /// registers or more.
     pub(crate) fn way(
         &self,
         pool: &mut Vec<Register>,
         kinds: &Kinds,
         place: usize,
-    ) -> Result<Way, Memory>
+    ) -> Result<Way, AllocError>
         requires { place < length self.now.lines.now }
-        ensures leads { IfOk result (λ way. (tables : Tables) → Leads (record { lines = self.now.lines.now; tables = tables }) kinds.now place way.line (slice_range pool.new.items way.from way.to)) }
+        ensures leads { IfOk result (λ way. (tables : Tables)
+            → Leads (record { lines = self.now.lines.now; tables = tables }) kinds.now place way.line
+            (slice_range pool.new.items way.from way.to)) }
         ensures within { IfOk result (IsWithin pool.new.items) }
         ensures grows { OnOk result (Grows 32 pool.old.items pool.new.items) }
     {
         if pool.len() >= FULL {
-            return Err(Memory);
+            return Err(AllocError);
         }
         let run = self.run(place);
         let from = pool.len();
@@ -118,14 +122,12 @@ fn run_of(form: &DomainLine, place: u32, next: Run) -> Run
     }
 }
 
-fn runs_of(alloc: Global, lines: &[Numbered<DomainLine>]) -> Result<List<Run>, Memory>
+fn runs_of(alloc: Global, lines: &[Numbered<DomainLine>]) -> Result<List<Run>, AllocError>
     requires { length lines.now < 2 ^ 31 }
     ensures one_each { IfOk result (λ runs. length runs ≡ length lines.now) }
     ensures right { IfOk result (AreRuns lines.now) }
 {
-    let Ok(room) = Vec::with_capacity(alloc, lines.len()) else {
-        return Err(Memory);
-    };
+    let room = Vec::with_capacity(alloc, lines.len())?;
     let mut runs = List::from_vec(room);
     let mut next = Run {
         line: lines.len() as u32,
@@ -151,7 +153,7 @@ fn has_head(lines: &[Numbered<DomainLine>]) -> bool
 }
 
 // The runs, or none where no line is a head.
-fn kept_runs(alloc: Global, lines: &[Numbered<DomainLine>]) -> Result<List<Run>, Memory>
+fn kept_runs(alloc: Global, lines: &[Numbered<DomainLine>]) -> Result<List<Run>, AllocError>
     requires { length lines.now < 2 ^ 31 }
     ensures { IfOk result (AreKept lines.now) }
 {
@@ -176,22 +178,19 @@ fn is_emptied(set: u32, kind: RegKind, number: u8) -> bool
 }
 
 // Puts the registers that hold something and that aren't in the set last in the pool.
-fn put_emptied(pool: &mut Vec<Register>, kinds: &[RegKind; 32], set: u32) -> Result<(), Memory>
+fn put_emptied(pool: &mut Vec<Register>, kinds: &[RegKind; 32], set: u32) -> Result<(), AllocError>
     ensures { OnOk result (Puts kinds.now set 32 pool.old.items pool.new.items) }
 {
     'registers: for number in 0..32u8 {
         if is_emptied(set, kinds[number as usize], number) {
-            match pool.push(Register { number }) {
-                Ok(()) => {}
-                Err(_) => return Err(Memory),
-            }
+            pool.push(Register { number })?;
         }
     }
     Ok(())
 }
 
 // The same of a set that mostly has all registers, since most lines are no heads, and of registers that may hold nothing: then none is put.
-fn put_unlisted(pool: &mut Vec<Register>, kinds: &Kinds, set: u32) -> Result<(), Memory>
+fn put_unlisted(pool: &mut Vec<Register>, kinds: &Kinds, set: u32) -> Result<(), AllocError>
     ensures { OnOk result (Puts kinds.now set 32 pool.old.items pool.new.items) }
 {
     if set == u32::MAX {

@@ -11,7 +11,7 @@ use Rattle.rl_defs.specs.DomainParts.{domain_part}
 use Rattle.rl_text.specs.Reading.{name_at, key_at, mark_at}
 use Rattle.rl_text.specs.Forms.{IsRefused, Reads, OneForm, SkippedIsNoForm}
 use Rattle.rl_text.proofs.FormLaws as forms
-use Rattle.rl_text.proofs.FormLaws.{IsReading}
+use Rattle.rl_text.specs.Forms.{IsReading}
 use Rattle.rl_text.proofs.PartRules.{AreForms}
 use Rattle.domain_code.specs.Decimals.{names_place}
 use Rattle.domain_code.specs.Forms.{line_at, form_at, word_line_at}

@@ -8,8 +8,8 @@ use Rattle.rl_defs.specs.declared.code.DomainLine.TheVariants as line
 use Rattle.rl_defs.specs.declared.code.DomainText.{DomainText}
 use Rattle.rl_defs.specs.Domains.{Lines}
 use Rattle.rl_defs.specs.Parts.{StandFor, numbered, next_open, block_behind, forms_of}
-use Rattle.rl_defs.specs.DomainParts.{Block, Outside, Declares, BehindFunction, InFunction, BehindEnd, next_block, domain_part, begins_domain, rest_of_domain, domains_of}
-use Rattle.rl_defs.specs.CodeFits.{LinesRise}
+use Rattle.rl_defs.specs.DomainParts.{DomainBlock, Outside, Declares, BehindFunction, InFunction, BehindEnd, next_block, domain_part, begins_domain, rest_of_domain, domains_of}
+use Rattle.rl_defs.specs.DomainParts.{LinesRise}
 use Rattle.domain_code.specs.Laws.{StandsAlone, EachStandsAlone}
 use Rattle.domain_code.proofs.DomainLaws.{domain_forms}
 use Rattle.domain_code.proofs.OrderLaws.{next_is, nowhere_ordered}
@@ -45,7 +45,7 @@ part_is_short first (t ∷ texts) lines (inr (form, more, is, f, h)) = omega (ar
 
 -- ---- the lines of one domain
 
-outside_or_not : (block : Block) → (block ≡ Outside) ⊎ (block ≡ Outside → ⊥)
+outside_or_not : (block : DomainBlock) → (block ≡ Outside) ⊎ (block ≡ Outside → ⊥)
 outside_or_not Outside = inl refl
 outside_or_not (Declares words slots native) = inr (λ e. cc)
 outside_or_not BehindFunction = inr (λ e. cc)
@@ -53,7 +53,7 @@ outside_or_not InFunction = inr (λ e. cc)
 outside_or_not BehindEnd = inr (λ e. cc)
 
 -- a domain begins outside of any other
-begins_outside : (block next : Block) (form : DomainLine) → begins_domain form ≡ true → next_block block form ≡ Some next → block ≡ Outside
+begins_outside : (block next : DomainBlock) (form : DomainLine) → begins_domain form ≡ true → next_block block form ≡ Some next → block ≡ Outside
 begins_outside Outside next form begins allowed = refl
 begins_outside (Declares words slots native) next (line.Domain name has) begins allowed = absurd cc
 begins_outside BehindFunction next (line.Domain name has) begins allowed = absurd cc
@@ -62,15 +62,15 @@ begins_outside BehindEnd next (line.Domain name has) begins allowed = absurd cc
 begins_outside block next form begins allowed = absurd cc
 
 -- the block behind these lines, from this one on
-abbrev behind : Block → Lines → Option Block
+abbrev behind : DomainBlock → Lines → Option DomainBlock
 behind block lines = fold (next_open domain_part) (Some block) (forms_of lines)
 
 -- the lines up to the next domain lead outside
-rest_at : (l : Numbered DomainLine) (ls : Lines) (block next : Block) (begins : Bool) → begins_domain l.form ≡ begins → next_block block l.form ≡ Some next → behind next (rest_of_domain ls) ≡ Some Outside → behind block (rest_of_domain (l ∷ ls)) ≡ Some Outside
-rest_at l ls block next true begins allowed rest = rw begins (ap (λ (b : Block). Some b) (begins_outside block next l.form begins allowed))
-rest_at l ls block next false begins allowed rest = rw begins (ap (λ (o : Option Block). fold (next_open domain_part) o (forms_of (rest_of_domain ls))) allowed ∙ rest)
+rest_at : (l : Numbered DomainLine) (ls : Lines) (block next : DomainBlock) (begins : Bool) → begins_domain l.form ≡ begins → next_block block l.form ≡ Some next → behind next (rest_of_domain ls) ≡ Some Outside → behind block (rest_of_domain (l ∷ ls)) ≡ Some Outside
+rest_at l ls block next true begins allowed rest = rw begins (ap (λ (b : DomainBlock). Some b) (begins_outside block next l.form begins allowed))
+rest_at l ls block next false begins allowed rest = rw begins (ap (λ (o : Option DomainBlock). fold (next_open domain_part) o (forms_of (rest_of_domain ls))) allowed ∙ rest)
 
-rest_closed : (ls : Lines) (block : Block) → behind block ls ≡ Some Outside → behind block (rest_of_domain ls) ≡ Some Outside
+rest_closed : (ls : Lines) (block : DomainBlock) → behind block ls ≡ Some Outside → behind block (rest_of_domain ls) ≡ Some Outside
 rest_closed [] block closed = closed
 rest_closed (l ∷ ls) block closed =
     let n = next_is domain_part block l.form (forms_of ls) (next_block block l.form) Outside refl closed in
@@ -112,22 +112,22 @@ rises_rest l ls rises =
 
 -- ---- the domains
 
-one_alone : (most : ℕ) (l : Numbered DomainLine) (ls : Lines) (block next : Block) → begins_domain l.form ≡ true → next_block block l.form ≡ Some next → behind next ls ≡ Some Outside → LinesRise (l ∷ ls) → length (l ∷ ls) ≤ most → StandsAlone most (record { lines = l ∷ rest_of_domain ls })
+one_alone : (most : ℕ) (l : Numbered DomainLine) (ls : Lines) (block next : DomainBlock) → begins_domain l.form ≡ true → next_block block l.form ≡ Some next → behind next ls ≡ Some Outside → LinesRise (l ∷ ls) → length (l ∷ ls) ≤ most → StandsAlone most (record { lines = l ∷ rest_of_domain ls })
 one_alone most l ls block next begins allowed closed rises few =
     let outside = begins_outside block next l.form begins allowed in
-    let first : next_block Outside l.form ≡ Some next = subst (λ (b : Block). next_block b l.form ≡ Some next) outside allowed in
+    let first : next_block Outside l.form ≡ Some next = subst (λ (b : DomainBlock). next_block b l.form ≡ Some next) outside allowed in
     record {
-      ordered = (begins, rest_again ls, ap (λ (o : Option Block). fold (next_open domain_part) o (forms_of (rest_of_domain ls))) first ∙ rest_closed ls next closed);
+      ordered = (begins, rest_again ls, ap (λ (o : Option DomainBlock). fold (next_open domain_part) o (forms_of (rest_of_domain ls))) first ∙ rest_closed ls next closed);
       rises = rises_rest l ls rises;
       short = omega (arith, few, rest_short ls);
     }
 
-all_at : (most : ℕ) (l : Numbered DomainLine) (ls : Lines) (block next : Block) (begins : Bool) → begins_domain l.form ≡ begins → next_block block l.form ≡ Some next → behind next ls ≡ Some Outside → LinesRise (l ∷ ls) → length (l ∷ ls) ≤ most → All (StandsAlone most) (domains_of ls) → All (StandsAlone most) (domains_of (l ∷ ls))
+all_at : (most : ℕ) (l : Numbered DomainLine) (ls : Lines) (block next : DomainBlock) (begins : Bool) → begins_domain l.form ≡ begins → next_block block l.form ≡ Some next → behind next ls ≡ Some Outside → LinesRise (l ∷ ls) → length (l ∷ ls) ≤ most → All (StandsAlone most) (domains_of ls) → All (StandsAlone most) (domains_of (l ∷ ls))
 all_at most l ls block next true begins allowed closed rises few more =
     rw begins (All-cons (StandsAlone most) (record { lines = l ∷ rest_of_domain ls }) (domains_of ls) (one_alone most l ls block next begins allowed closed rises few) more)
 all_at most l ls block next false begins allowed closed rises few more = rw begins more
 
-all_alone : (most : ℕ) (lines : Lines) (block : Block) → behind block lines ≡ Some Outside → LinesRise lines → length lines ≤ most → All (StandsAlone most) (domains_of lines)
+all_alone : (most : ℕ) (lines : Lines) (block : DomainBlock) → behind block lines ≡ Some Outside → LinesRise lines → length lines ≤ most → All (StandsAlone most) (domains_of lines)
 all_alone most [] block closed rises few = All-nil (StandsAlone most)
 all_alone most (l ∷ ls) block closed rises few =
     let n = next_is domain_part block l.form (forms_of ls) (next_block block l.form) Outside refl closed in

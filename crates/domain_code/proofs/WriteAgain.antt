@@ -6,11 +6,11 @@ use Rattle.rl_defs.specs.declared.code.DomainText.{DomainText}
 use Rattle.rl_defs.specs.Domains.{Lines}
 use Rattle.rl_defs.specs.Lines.{lines_of}
 use Rattle.rl_defs.specs.Tokens.{Token}
-use Rattle.rl_defs.specs.Canonical.{render_line}
+use Rattle.rl_text.specs.Canonical.{render_line}
 use Rattle.rl_defs.specs.Parts.{StandFor, numbered, block_behind, forms_of}
 use Rattle.rl_defs.specs.DomainForms.{spell_line, HasDecimals, PlaceIsDecimal, IsDomainLine}
 use Rattle.rl_defs.specs.DomainParts.{domain_part, rest_of_domain, domains_of}
-use Rattle.rl_defs.specs.DomainCanonical.{depth_of, depth_behind, write_lines}
+use Rattle.domain_code.specs.DomainCanonical.{depth_of, depth_behind, write_lines}
 use Rattle.rl_text.specs.Writable.{renumbered}
 use Rattle.rl_text.proofs.WrittenLines.{written_first, written_has, written_decimal}
 use Rattle.domain_code.specs.Decimals.{names_place}

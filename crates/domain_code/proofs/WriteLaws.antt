@@ -10,9 +10,9 @@ use Rattle.rl_defs.specs.declared.code.DomainLine.{DomainLine}
 use Rattle.rl_defs.specs.Words.{is_name}
 use Rattle.rl_defs.specs.Domains.{Lines}
 use Rattle.rl_defs.specs.Tokens.{Name}
-use Rattle.rl_defs.specs.Canonical.{render_line}
+use Rattle.rl_text.specs.Canonical.{render_line}
 use Rattle.rl_defs.specs.DomainForms.{spell_one, spell_line}
-use Rattle.rl_defs.specs.DomainCanonical.{depth_of, depth_behind, write_lines}
+use Rattle.domain_code.specs.DomainCanonical.{depth_of, depth_behind, write_lines}
 use Rattle.domain_code.specs.declared.verb.One.TheVariants as one
 use Rattle.domain_code.specs.declared.verb.Two.TheVariants as pair
 use Rattle.domain_code.specs.declared.verb.Three.TheVariants as triple

@@ -3,7 +3,7 @@ use Rattle.std.specs.Prelude.{◌≡◌, ℕ, ◌≤◌, List, length, All}
 use Rattle.rl_defs.specs.declared.code.DomainText.{DomainText}
 use Rattle.rl_defs.specs.Refusals.{Nowhere}
 use Rattle.rl_defs.specs.DomainParts.{FailsDomains, AreDomains}
-use Rattle.rl_defs.specs.CodeFits.{IsOneDomain, LinesRise}
+use Rattle.rl_defs.specs.DomainParts.{IsOneDomain, LinesRise}
 
 -- texts have one list of domains at most
 abbrev pub OneCut : Type 0

@@ -7,3 +7,4 @@ pub mod Decimals
 pub mod Parts
 pub mod Laws
 pub mod Writable
+pub mod DomainCanonical

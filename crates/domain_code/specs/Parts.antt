@@ -18,7 +18,7 @@ use Rattle.rl_text.specs.PartSteps.{Barred}
 use Rattle.domain_code.specs.declared.part.Block.{Block}
 use Rattle.domain_code.specs.declared.part.Block.TheVariants.{Outside, Declares, BehindFunction, InFunction, BehindEnd}
 
-abbrev pub block_of : Block → parts.Block
+abbrev pub block_of : Block → parts.DomainBlock
 block_of Outside = parts.Outside
 block_of (Declares words slots native) = parts.Declares words slots native
 block_of BehindFunction = parts.BehindFunction

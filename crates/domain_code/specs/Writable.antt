@@ -7,7 +7,7 @@ use Rattle.rl_defs.specs.Refusals.{Nowhere}
 use Rattle.rl_defs.specs.Parts.{StandFor, block_behind, forms_of}
 use Rattle.rl_defs.specs.DomainForms.{spell_line}
 use Rattle.rl_defs.specs.DomainParts.{Outside, domain_part, begins_domain, FailsDomains, AreDomains}
-use Rattle.rl_defs.specs.DomainCanonical.{depth_of, depth_behind}
+use Rattle.domain_code.specs.DomainCanonical.{depth_of, depth_behind}
 use Rattle.rl_text.specs.Writable.{AreWritable, written_inside, renumbered}
 
 -- a line as it is written behind so many open blocks, without its line feed

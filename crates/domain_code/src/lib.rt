@@ -6,9 +6,12 @@ mod instr;
 pub mod laws;
 mod list;
 mod operand;
-pub mod part;
+mod part;
 mod read;
 #[cfg(test)]
 mod tests;
 mod verb;
-pub mod write;
+mod write;
+
+pub use part::read_domains;
+pub use write::write_domain;

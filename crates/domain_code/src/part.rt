@@ -9,14 +9,13 @@ ghost use Rattle.rl_text.specs.PartSteps.{GivesBlock};
 ghost use Rattle.domain_code.specs.Parts.{block_of, stands_inside, goes_on, Joins, TakesLine};
 
 use crate::read::read_form;
+use rl_defs::LoadFault;
 use rl_defs::bundle::Numbered;
 use rl_defs::code::{DomainLine, DomainText, Instr};
 use rl_defs::list::List;
-use rl_defs::{LoadFault, Memory};
 use rl_text::lexeme::Lexeme;
 use rl_text::line::{Line, first_number};
-use rl_text::token::refused;
-use std::alloc::Global;
+use std::alloc::{AllocError, Global};
 
 // Where some lines lead.
 #[derive(Clone, Copy)]
@@ -198,13 +197,16 @@ fn room(bytes: &[u8], behind: &[Line]) -> usize
 // What is said where there is no room for a line, which is gone.
 #[cold]
 #[inline(never)]
-fn no_room(_line: Numbered<DomainLine>) -> Memory {
-    Memory
+fn no_room(_line: Numbered<DomainLine>) -> AllocError {
+    AllocError
 }
 
 // Puts a line last. Room is made first, and giving the line up stands apart, so that it is moved once and as a whole.
 #[inline(always)]
-fn put_last(lines: &mut Vec<Numbered<DomainLine>>, line: Numbered<DomainLine>) -> Result<(), Memory>
+fn put_last(
+    lines: &mut Vec<Numbered<DomainLine>>,
+    line: Numbered<DomainLine>,
+) -> Result<(), AllocError>
     ensures { OnOk result (lines.new.items ≡ lines.old.items ++ line ∷ []) }
 {
     match lines.reserve(1) {
@@ -222,19 +224,14 @@ fn begin(
     domains: &mut Vec<DomainText>,
     line: Numbered<DomainLine>,
     room: usize,
-) -> Result<(), Memory>
+) -> Result<(), AllocError>
     ensures { OnOk result (domains.new.items ≡ domains.old.items ++ record { lines = line ∷ [] } ∷ []) }
 {
-    let mut all = match Vec::with_capacity(alloc, room.saturating_add(1)) {
-        Ok(all) => all,
-        Err(_) => return Err(Memory),
-    };
+    let mut all = Vec::with_capacity(alloc, room.saturating_add(1))?;
     put_last(&mut all, line)?;
     let lines = List::from_vec(all);
-    match domains.push(DomainText { lines }) {
-        Ok(()) => Ok(()),
-        Err(_) => Err(Memory),
-    }
+    domains.push(DomainText { lines })?;
+    Ok(())
 }
 
 // Puts one of these lines behind the lines so far. One that begins a domain begins a new one, and each other one belongs to
@@ -245,7 +242,7 @@ fn put(
     line: Numbered<DomainLine>,
     bytes: &[u8],
     lines: &[Line],
-) -> Result<(), Memory>
+) -> Result<(), AllocError>
     ensures { OnOk result (Joins domains.old.items line domains.new.items) }
 {
     if begins_domain(&line.form) {
@@ -278,22 +275,18 @@ fn take_line(
     requires { IsWithin bytes.now line.now }
     ensures { TakesLine line.now.number (text_of bytes.now line.now) block domains.old.items domains.new.items result }
 {
-    let form = match read_form(alloc, buffer, bytes, line) {
-        Ok(Some(form)) => form,
-        Ok(None) => return Ok(block),
-        Err(fault) => return Err(fault),
+    let Some(form) = read_form(alloc, buffer, bytes, line)? else {
+        return Ok(block);
     };
     let Some(next) = after(block, &form) else {
-        return Err(refused(line.number, 2));
+        return Err(LoadFault::refused(line.number, 2));
     };
     let numbered = Numbered {
         line: line.number,
         form,
     };
-    match put(alloc, domains, numbered, bytes, lines) {
-        Ok(()) => Ok(next),
-        Err(_) => Err(LoadFault::Memory),
-    }
+    put(alloc, domains, numbered, bytes, lines)?;
+    Ok(next)
 }
 
 /// The domains of a domain part, each with its lines and their numbers, by the lines behind the part's header. It is refused at the
@@ -314,14 +307,11 @@ pub fn read_domains(
     let mut block = Block::Outside;
     let mut number = first_number(lines);
     'lines: for line in lines {
-        match take_line(alloc, &mut buffer, &mut domains, block, bytes, line, lines) {
-            Ok(next) => block = next,
-            Err(fault) => return Err(fault),
-        }
+        block = take_line(alloc, &mut buffer, &mut domains, block, bytes, line, lines)?;
         number += 1;
     }
     match block {
         Block::Outside => Ok(List::from_vec(domains)),
-        _ => Err(refused(number, 2)),
+        _ => Err(LoadFault::refused(number, 2)),
     }
 }

@@ -12,7 +12,6 @@ use rl_text::cursor::{Cursor, Stop};
 use rl_text::decimal::has_decimals;
 use rl_text::lexeme::{Lexeme, lexemes};
 use rl_text::line::Line;
-use rl_text::token::refused;
 use std::alloc::Global;
 
 // Whether a line names the place of a cell that is hung into, or taken from.
@@ -50,10 +49,7 @@ pub(crate) fn read_form(
     requires { IsWithin bytes.now line.now }
     ensures { Reads IsDomainLine line.now.number (text_of bytes.now line.now) result }
 {
-    match lexemes(buffer, bytes, line) {
-        Ok(()) => {}
-        Err(fault) => return Err(fault),
-    }
+    lexemes(buffer, bytes, line)?;
     let all = buffer.as_slice();
     if all.is_empty() {
         return Ok(None);
@@ -62,11 +58,11 @@ pub(crate) fn read_form(
     match whole_form(alloc, &mut left) {
         Ok(form) => {
             if !place_is_decimal(&form, bytes, line) {
-                return Err(refused(line.number, 1));
+                return Err(LoadFault::refused(line.number, 1));
             }
             Ok(Some(form))
         }
-        Err(Stop::NoForm) => Err(refused(line.number, 1)),
+        Err(Stop::NoForm) => Err(LoadFault::refused(line.number, 1)),
         Err(Stop::Memory) => Err(LoadFault::Memory),
     }
 }

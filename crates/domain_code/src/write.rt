@@ -7,12 +7,11 @@ ghost use Rattle.rl_defs.specs.declared.lexeme.Mark.TheVariants as m;
 ghost use Rattle.rl_defs.specs.Tokens as t;
 ghost use Rattle.rl_defs.specs.IdlForms.{spell_more};
 ghost use Rattle.rl_defs.specs.DomainForms.{spell_register, spell_one, spell_some, behind_comma, two, three, spell_arg, spell_results, spell_instr, spell_kind, spell_head, spell_native, spell_line};
-ghost use Rattle.rl_defs.specs.DomainCanonical.{depth_of, depth_behind, write_lines, write_domain};
+ghost use Rattle.domain_code.specs.DomainCanonical.{depth_of, depth_behind, write_lines, write_domain};
 ghost use Rattle.domain_code.specs.Verbs.{two_text, three_text, named_text, verb_text};
 ghost use Rattle.domain_code.specs.Writable.{IsReadAgain, IsDomainAgain};
 
 use crate::verb::{Named, One, Three, Two, Verb, verb_text};
-use rl_defs::Memory;
 use rl_defs::bundle::Numbered;
 use rl_defs::code::{
     CallArg, DomainLine, DomainText, HeadItem, HeadKind, Instr, MathOp, Native, Register,
@@ -20,9 +19,9 @@ use rl_defs::code::{
 use rl_defs::lexeme::{Key, Mark};
 use rl_defs::name::Name;
 use rl_text::render::Spelling;
-use std::alloc::Global;
+use std::alloc::{AllocError, Global};
 
-fn put_register(out: &mut Spelling<'_>, register: Register) -> Result<(), Memory>
+fn put_register(out: &mut Spelling<'_>, register: Register) -> Result<(), AllocError>
     ensures { OnOk result (out.new ≡ out.old ++ spell_one register) }
 {
     let number = register.number;
@@ -33,7 +32,7 @@ fn put_register(out: &mut Spelling<'_>, register: Register) -> Result<(), Memory
 }
 
 // A register behind a comma.
-fn put_next(out: &mut Spelling<'_>, register: Register) -> Result<(), Memory>
+fn put_next(out: &mut Spelling<'_>, register: Register) -> Result<(), AllocError>
     ensures { OnOk result (out.new ≡ out.old ++ behind_comma register) }
 {
     out.mark(Mark::Comma)?;
@@ -41,19 +40,19 @@ fn put_next(out: &mut Spelling<'_>, register: Register) -> Result<(), Memory>
 }
 
 // The word that a line begins with.
-fn put_verb(out: &mut Spelling<'_>, verb: Verb) -> Result<(), Memory>
+fn put_verb(out: &mut Spelling<'_>, verb: Verb) -> Result<(), AllocError>
     ensures { OnOk result (out.new ≡ out.old ++ t.Name (verb_text verb) ∷ []) }
 {
     out.word(verb_text(verb))
 }
 
-fn put_else(out: &mut Spelling<'_>) -> Result<(), Memory>
+fn put_else(out: &mut Spelling<'_>) -> Result<(), AllocError>
     ensures { OnOk result (out.new ≡ out.old ++ t.Name (codes "else") ∷ []) }
 {
     out.word(b"else")
 }
 
-fn put_native(out: &mut Spelling<'_>, body: Native) -> Result<(), Memory>
+fn put_native(out: &mut Spelling<'_>, body: Native) -> Result<(), AllocError>
     ensures { OnOk result (out.new ≡ out.old ++ t.Name (spell_native body) ∷ []) }
 {
     match body {
@@ -63,7 +62,7 @@ fn put_native(out: &mut Spelling<'_>, body: Native) -> Result<(), Memory>
 }
 
 // A word and one register.
-fn put_one(out: &mut Spelling<'_>, verb: Verb, a: Register) -> Result<(), Memory>
+fn put_one(out: &mut Spelling<'_>, verb: Verb, a: Register) -> Result<(), AllocError>
     ensures { OnOk result (out.new ≡ out.old ++ (t.Name (verb_text verb) ∷ spell_one a)) }
 {
     put_verb(out, verb)?;
@@ -71,7 +70,7 @@ fn put_one(out: &mut Spelling<'_>, verb: Verb, a: Register) -> Result<(), Memory
 }
 
 // A word and two registers.
-fn put_two(out: &mut Spelling<'_>, verb: Verb, a: Register, b: Register) -> Result<(), Memory>
+fn put_two(out: &mut Spelling<'_>, verb: Verb, a: Register, b: Register) -> Result<(), AllocError>
     ensures { OnOk result (out.new ≡ out.old ++ (t.Name (verb_text verb) ∷ two a b)) }
 {
     put_one(out, verb, a)?;
@@ -85,7 +84,7 @@ fn put_three(
     a: Register,
     b: Register,
     c: Register,
-) -> Result<(), Memory>
+) -> Result<(), AllocError>
     ensures { OnOk result (out.new ≡ out.old ++ (t.Name (verb_text verb) ∷ three a b c)) }
 {
     put_two(out, verb, a, b)?;
@@ -93,15 +92,16 @@ fn put_three(
 }
 
 // A word, a register and a name.
-fn put_named(out: &mut Spelling<'_>, verb: Verb, a: Register, name: Name) -> Result<(), Memory>
-    ensures { OnOk result (out.new ≡ out.old ++ (t.Name (verb_text verb) ∷ spell_register a ∷ t.Sign m.Comma ∷ t.Name name ∷ [])) }
+fn put_named(out: &mut Spelling<'_>, verb: Verb, a: Register, name: Name) -> Result<(), AllocError>
+    ensures { OnOk result (out.new ≡ out.old
+        ++ (t.Name (verb_text verb) ∷ spell_register a ∷ t.Sign m.Comma ∷ t.Name name ∷ [])) }
 {
     put_one(out, verb, a)?;
     out.mark(Mark::Comma)?;
     out.name(name)
 }
 
-fn put_const(out: &mut Spelling<'_>, a: Register, number: u64) -> Result<(), Memory>
+fn put_const(out: &mut Spelling<'_>, a: Register, number: u64) -> Result<(), AllocError>
     ensures { OnOk result (out.new ≡ out.old ++ spell_instr (instr.Const a number)) }
 {
     out.key(Key::Const)?;
@@ -110,14 +110,14 @@ fn put_const(out: &mut Spelling<'_>, a: Register, number: u64) -> Result<(), Mem
     out.number(number)
 }
 
-fn put_jump(out: &mut Spelling<'_>, label: Name) -> Result<(), Memory>
+fn put_jump(out: &mut Spelling<'_>, label: Name) -> Result<(), AllocError>
     ensures { OnOk result (out.new ≡ out.old ++ spell_instr (instr.Jmp label)) }
 {
     put_verb(out, Verb::Jmp)?;
     out.name(label)
 }
 
-fn put_put(out: &mut Spelling<'_>, slot: Name, a: Register) -> Result<(), Memory>
+fn put_put(out: &mut Spelling<'_>, slot: Name, a: Register) -> Result<(), AllocError>
     ensures { OnOk result (out.new ≡ out.old ++ spell_instr (instr.Put slot a)) }
 {
     put_verb(out, Verb::Put)?;
@@ -130,7 +130,7 @@ fn put_hang(
     object: Register,
     place: u64,
     value: Register,
-) -> Result<(), Memory>
+) -> Result<(), AllocError>
     ensures { OnOk result (out.new ≡ out.old ++ spell_instr (instr.Hang object place value)) }
 {
     put_one(out, Verb::Hang, object)?;
@@ -144,7 +144,7 @@ fn put_unhang(
     a: Register,
     object: Register,
     place: u64,
-) -> Result<(), Memory>
+) -> Result<(), AllocError>
     ensures { OnOk result (out.new ≡ out.old ++ spell_instr (instr.Unhang a object place)) }
 {
     put_two(out, Verb::Unhang, a, object)?;
@@ -153,7 +153,7 @@ fn put_unhang(
 }
 
 // Registers, a comma before each.
-fn put_more_registers(out: &mut Spelling<'_>, registers: &[Register]) -> Result<(), Memory>
+fn put_more_registers(out: &mut Spelling<'_>, registers: &[Register]) -> Result<(), AllocError>
     ensures { OnOk result (out.new ≡ out.old ++ spell_more spell_one registers.now) }
 {
     'registers: for register in registers {
@@ -164,7 +164,7 @@ fn put_more_registers(out: &mut Spelling<'_>, registers: &[Register]) -> Result<
 }
 
 // Registers, a comma between two of them.
-fn put_registers(out: &mut Spelling<'_>, registers: &[Register]) -> Result<(), Memory>
+fn put_registers(out: &mut Spelling<'_>, registers: &[Register]) -> Result<(), AllocError>
     ensures { OnOk result (out.new ≡ out.old ++ spell_some spell_one registers.now) }
 {
     match registers {
@@ -176,7 +176,7 @@ fn put_registers(out: &mut Spelling<'_>, registers: &[Register]) -> Result<(), M
     }
 }
 
-fn put_arg(out: &mut Spelling<'_>, arg: CallArg) -> Result<(), Memory>
+fn put_arg(out: &mut Spelling<'_>, arg: CallArg) -> Result<(), AllocError>
     ensures { OnOk result (out.new ≡ out.old ++ spell_arg arg) }
 {
     match arg {
@@ -189,7 +189,7 @@ fn put_arg(out: &mut Spelling<'_>, arg: CallArg) -> Result<(), Memory>
 }
 
 // Arguments, a comma before each.
-fn put_more_args(out: &mut Spelling<'_>, args: &[CallArg]) -> Result<(), Memory>
+fn put_more_args(out: &mut Spelling<'_>, args: &[CallArg]) -> Result<(), AllocError>
     ensures { OnOk result (out.new ≡ out.old ++ spell_more spell_arg args.now) }
 {
     'arguments: for arg in args {
@@ -200,7 +200,7 @@ fn put_more_args(out: &mut Spelling<'_>, args: &[CallArg]) -> Result<(), Memory>
 }
 
 // Arguments, a comma between two of them.
-fn put_args(out: &mut Spelling<'_>, args: &[CallArg]) -> Result<(), Memory>
+fn put_args(out: &mut Spelling<'_>, args: &[CallArg]) -> Result<(), AllocError>
     ensures { OnOk result (out.new ≡ out.old ++ spell_some spell_arg args.now) }
 {
     match args {
@@ -213,8 +213,9 @@ fn put_args(out: &mut Spelling<'_>, args: &[CallArg]) -> Result<(), Memory>
 }
 
 // `call C.METHOD(`
-fn put_callee(out: &mut Spelling<'_>, target: Register, method: Name) -> Result<(), Memory>
-    ensures { OnOk result (out.new ≡ out.old ++ (t.Name (codes "call") ∷ spell_register target ∷ t.Sign m.Dot ∷ t.Name method ∷ t.Sign m.OpenParen ∷ [])) }
+fn put_callee(out: &mut Spelling<'_>, target: Register, method: Name) -> Result<(), AllocError>
+    ensures { OnOk result (out.new ≡ out.old
+        ++ (t.Name (codes "call") ∷ spell_register target ∷ t.Sign m.Dot ∷ t.Name method ∷ t.Sign m.OpenParen ∷ [])) }
 {
     put_one(out, Verb::Call, target)?;
     out.mark(Mark::Dot)?;
@@ -223,7 +224,7 @@ fn put_callee(out: &mut Spelling<'_>, target: Register, method: Name) -> Result<
 }
 
 // The results of a call, with their `->`, or nothing.
-fn put_results(out: &mut Spelling<'_>, results: &[Register]) -> Result<(), Memory>
+fn put_results(out: &mut Spelling<'_>, results: &[Register]) -> Result<(), AllocError>
     ensures { OnOk result (out.new ≡ out.old ++ spell_results results.now) }
 {
     match results {
@@ -237,8 +238,9 @@ fn put_results(out: &mut Spelling<'_>, results: &[Register]) -> Result<(), Memor
 }
 
 // `else E, LABEL`
-fn put_landing(out: &mut Spelling<'_>, code: Register, label: Name) -> Result<(), Memory>
-    ensures { OnOk result (out.new ≡ out.old ++ (t.Name (codes "else") ∷ spell_register code ∷ t.Sign m.Comma ∷ t.Name label ∷ [])) }
+fn put_landing(out: &mut Spelling<'_>, code: Register, label: Name) -> Result<(), AllocError>
+    ensures { OnOk result (out.new ≡ out.old
+        ++ (t.Name (codes "else") ∷ spell_register code ∷ t.Sign m.Comma ∷ t.Name label ∷ [])) }
 {
     put_else(out)?;
     put_register(out, code)?;
@@ -254,8 +256,9 @@ fn put_call(
     results: &[Register],
     code: Register,
     label: Name,
-) -> Result<(), Memory>
-    ensures { OnOk result (out.new ≡ out.old ++ spell_instr (instr.Call target method args.now results.now code label)) }
+) -> Result<(), AllocError>
+    ensures { OnOk result (out.new ≡ out.old
+        ++ spell_instr (instr.Call target method args.now results.now code label)) }
 {
     put_callee(out, target, method)?;
     put_args(out, args)?;
@@ -264,7 +267,7 @@ fn put_call(
     put_landing(out, code, label)
 }
 
-fn put_return(out: &mut Spelling<'_>, results: &[Register]) -> Result<(), Memory>
+fn put_return(out: &mut Spelling<'_>, results: &[Register]) -> Result<(), AllocError>
     ensures { OnOk result (out.new ≡ out.old ++ (t.Name (codes "ret") ∷ spell_some spell_one results.now)) }
 {
     put_verb(out, Verb::Ret)?;
@@ -277,13 +280,13 @@ fn put_math(
     a: Register,
     b: Register,
     c: Register,
-) -> Result<(), Memory>
+) -> Result<(), AllocError>
     ensures { OnOk result (out.new ≡ out.old ++ spell_instr (instr.Math op a b c)) }
 {
     put_three(out, Verb::Three(Three::Math(op)), a, b, c)
 }
 
-fn put_instr(out: &mut Spelling<'_>, line: &Instr) -> Result<(), Memory>
+fn put_instr(out: &mut Spelling<'_>, line: &Instr) -> Result<(), AllocError>
     ensures { OnOk result (out.new ≡ out.old ++ spell_instr line.now) }
 {
     match line {
@@ -338,8 +341,9 @@ fn put_instr(out: &mut Spelling<'_>, line: &Instr) -> Result<(), Memory>
 }
 
 // `RRef<STRUCT>`
-fn put_struct(out: &mut Spelling<'_>, name: Name) -> Result<(), Memory>
-    ensures { OnOk result (out.new ≡ out.old ++ (t.Reserved k.RRef ∷ t.Sign m.Less ∷ t.Name name ∷ t.Sign m.Greater ∷ [])) }
+fn put_struct(out: &mut Spelling<'_>, name: Name) -> Result<(), AllocError>
+    ensures { OnOk result (out.new ≡ out.old
+        ++ (t.Reserved k.RRef ∷ t.Sign m.Less ∷ t.Name name ∷ t.Sign m.Greater ∷ [])) }
 {
     out.key(Key::RRef)?;
     out.mark(Mark::Less)?;
@@ -347,7 +351,7 @@ fn put_struct(out: &mut Spelling<'_>, name: Name) -> Result<(), Memory>
     out.mark(Mark::Greater)
 }
 
-fn put_kind(out: &mut Spelling<'_>, kind: HeadKind) -> Result<(), Memory>
+fn put_kind(out: &mut Spelling<'_>, kind: HeadKind) -> Result<(), AllocError>
     ensures { OnOk result (out.new ≡ out.old ++ spell_kind kind) }
 {
     match kind {
@@ -365,7 +369,7 @@ fn put_kind(out: &mut Spelling<'_>, kind: HeadKind) -> Result<(), Memory>
     }
 }
 
-fn put_head(out: &mut Spelling<'_>, item: HeadItem) -> Result<(), Memory>
+fn put_head(out: &mut Spelling<'_>, item: HeadItem) -> Result<(), AllocError>
     ensures { OnOk result (out.new ≡ out.old ++ spell_head item) }
 {
     put_register(out, item.register)?;
@@ -373,7 +377,7 @@ fn put_head(out: &mut Spelling<'_>, item: HeadItem) -> Result<(), Memory>
 }
 
 // Registers of a head, a comma before each.
-fn put_more_heads(out: &mut Spelling<'_>, heads: &[HeadItem]) -> Result<(), Memory>
+fn put_more_heads(out: &mut Spelling<'_>, heads: &[HeadItem]) -> Result<(), AllocError>
     ensures { OnOk result (out.new ≡ out.old ++ spell_more spell_head heads.now) }
 {
     'heads: for head in heads {
@@ -384,7 +388,7 @@ fn put_more_heads(out: &mut Spelling<'_>, heads: &[HeadItem]) -> Result<(), Memo
 }
 
 // Registers of a head, a comma between two of them.
-fn put_heads(out: &mut Spelling<'_>, heads: &[HeadItem]) -> Result<(), Memory>
+fn put_heads(out: &mut Spelling<'_>, heads: &[HeadItem]) -> Result<(), AllocError>
     ensures { OnOk result (out.new ≡ out.old ++ spell_some spell_head heads.now) }
 {
     match heads {
@@ -396,7 +400,7 @@ fn put_heads(out: &mut Spelling<'_>, heads: &[HeadItem]) -> Result<(), Memory>
     }
 }
 
-fn put_label(out: &mut Spelling<'_>, label: Name, heads: &[HeadItem]) -> Result<(), Memory>
+fn put_label(out: &mut Spelling<'_>, label: Name, heads: &[HeadItem]) -> Result<(), AllocError>
     ensures { OnOk result (out.new ≡ out.old ++ spell_line (line.Head label heads.now)) }
 {
     out.name(label)?;
@@ -405,8 +409,9 @@ fn put_label(out: &mut Spelling<'_>, label: Name, heads: &[HeadItem]) -> Result<
 }
 
 // A word, a name, and another one behind a colon.
-fn put_pair(out: &mut Spelling<'_>, verb: Verb, name: Name, of: Name) -> Result<(), Memory>
-    ensures { OnOk result (out.new ≡ out.old ++ (t.Name (verb_text verb) ∷ t.Name name ∷ t.Sign m.Colon ∷ t.Name of ∷ [])) }
+fn put_pair(out: &mut Spelling<'_>, verb: Verb, name: Name, of: Name) -> Result<(), AllocError>
+    ensures { OnOk result (out.new ≡ out.old
+        ++ (t.Name (verb_text verb) ∷ t.Name name ∷ t.Sign m.Colon ∷ t.Name of ∷ [])) }
 {
     put_verb(out, verb)?;
     out.name(name)?;
@@ -414,28 +419,28 @@ fn put_pair(out: &mut Spelling<'_>, verb: Verb, name: Name, of: Name) -> Result<
     out.name(of)
 }
 
-fn put_domain(out: &mut Spelling<'_>, name: Name, has: Name) -> Result<(), Memory>
+fn put_domain(out: &mut Spelling<'_>, name: Name, has: Name) -> Result<(), AllocError>
     ensures { OnOk result (out.new ≡ out.old ++ spell_line (line.Domain name has)) }
 {
     put_pair(out, Verb::Domain, name, has)?;
     out.mark(Mark::OpenBrace)
 }
 
-fn put_words(out: &mut Spelling<'_>, count: u64) -> Result<(), Memory>
+fn put_words(out: &mut Spelling<'_>, count: u64) -> Result<(), AllocError>
     ensures { OnOk result (out.new ≡ out.old ++ spell_line (line.Words count)) }
 {
     put_verb(out, Verb::Words)?;
     out.number(count)
 }
 
-fn put_body(out: &mut Spelling<'_>, body: Native) -> Result<(), Memory>
+fn put_body(out: &mut Spelling<'_>, body: Native) -> Result<(), AllocError>
     ensures { OnOk result (out.new ≡ out.old ++ spell_line (line.Native body)) }
 {
     put_verb(out, Verb::Native)?;
     put_native(out, body)
 }
 
-fn put_function(out: &mut Spelling<'_>, name: Name) -> Result<(), Memory>
+fn put_function(out: &mut Spelling<'_>, name: Name) -> Result<(), AllocError>
     ensures { OnOk result (out.new ≡ out.old ++ spell_line (line.Function name)) }
 {
     out.key(Key::Fn)?;
@@ -443,7 +448,7 @@ fn put_function(out: &mut Spelling<'_>, name: Name) -> Result<(), Memory>
     out.mark(Mark::OpenBrace)
 }
 
-fn put_line(out: &mut Spelling<'_>, form: &DomainLine) -> Result<(), Memory>
+fn put_line(out: &mut Spelling<'_>, form: &DomainLine) -> Result<(), AllocError>
     ensures { OnOk result (out.new ≡ out.old ++ spell_line form.now) }
 {
     match form {
@@ -485,7 +490,7 @@ fn put_lines(
     alloc: Global,
     bytes: &mut Vec<u8>,
     lines: &[Numbered<DomainLine>],
-) -> Result<(), Memory>
+) -> Result<(), AllocError>
     ensures { OnOk result (bytes.new.items ≡ bytes.old.items ++ write_lines 0 lines.now) }
 {
     let mut out = Spelling::new(alloc);
@@ -500,7 +505,7 @@ fn put_lines(
 }
 
 /// The canonical text of a domain: each line with four blanks for each block that is open round it, and a line feed.
-pub fn write_domain(alloc: Global, text: &DomainText) -> Result<Vec<u8>, Memory>
+pub fn write_domain(alloc: Global, text: &DomainText) -> Result<Vec<u8>, AllocError>
     ensures canonical { IfOk result (λ v. v.items ≡ write_domain text.now.lines) }
     ensures again { IfOk result (λ v. IsReadAgain text.now.lines v.items) }
     ensures domain { IfOk result (λ v. IsDomainAgain text.now.lines v.items) }

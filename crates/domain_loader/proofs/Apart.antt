@@ -13,9 +13,9 @@ use Rattle.rl_defs.specs.Refusals.{IsFirst, Nowhere, Answers}
 use Rattle.rl_defs.specs.DomainValue.{Domain}
 use Rattle.rl_defs.specs.Domains.{Lines}
 use Rattle.rl_defs.specs.CodeRules.{FailsCode}
-use Rattle.rl_defs.specs.CodeFits.{LinesRise}
+use Rattle.rl_defs.specs.DomainParts.{LinesRise}
 use Rattle.rl_defs.specs.BundleOrder.{Rise, numbers_of}
-use Rattle.rl_defs.specs.Standing.{checked_with}
+use Rattle.rl_defs.specs.LoadOf.{checked_with}
 use Rattle.rl_defs.proofs.Places.{get_front, get_seam, get_within}
 use Rattle.domain_loader.specs.Phases.{FailsDomains}
 

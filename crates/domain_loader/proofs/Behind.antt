@@ -11,7 +11,7 @@ use Rattle.rl_defs.specs.declared.idl.Idl.{Idl}
 use Rattle.rl_defs.specs.declared.idl.IdlLine.{IdlLine}
 use Rattle.rl_defs.specs.declared.code.DomainText.{DomainText}
 use Rattle.rl_defs.specs.declared.tables.Tables.{Tables}
-use Rattle.rl_defs.specs.declared.load.Load.{Load}
+use Rattle.rl_defs.specs.declared.load.LoadRows.{LoadRows}
 use Rattle.rl_defs.specs.DomainValue.{Domain}
 use Rattle.rl_defs.specs.Refusals.{Failing, IsFirst, Nowhere, Answers, Then}
 use Rattle.rl_defs.specs.Interfaces.{Rises}
@@ -19,9 +19,9 @@ use Rattle.rl_defs.specs.TypeRules.{FailsTypes}
 use Rattle.rl_defs.specs.MethodRules.{FailsMethods, TableRows}
 use Rattle.rl_defs.specs.PlanRules.{FailsPlanRules}
 use Rattle.rl_defs.specs.ScriptRules.{FailsScripts}
-use Rattle.rl_defs.specs.BundleNames.{FailsBundleNames}
+use Rattle.rl_defs.specs.NameRules.{FailsBundleNames}
 use Rattle.rl_defs.specs.BundleOrder.{IsOrdered, Rise, numbers_of, line_numbers, bundle_of, text_of}
-use Rattle.rl_defs.specs.Standing.{checked_with, load_of}
+use Rattle.rl_defs.specs.LoadOf.{checked_with, load_of}
 use Rattle.rl_defs.specs.Acceptance.{Next, FailsDomain, FailsBehindTables, FailsBehindForms}
 use Rattle.rl_defs.proofs.FirstRefusal.{second_answers}
 use Rattle.proxy_tables.proofs.TableLaws.{tables_once}
@@ -44,21 +44,21 @@ widened F G S H line rule h = record {
   ];
 }
 
-pub tables_refused : (b : Bundle) (e : LoadFault) → Nowhere (FailsBundleNames b) → Answers {X = Tables} (Next (FailsTypes b.idl) (FailsMethods b.idl)) (AreSmallTables b.idl) (Err e) → Answers {X = Load} (FailsBehindForms b) (IsLoadOf b) (Err e)
+pub tables_refused : (b : Bundle) (e : LoadFault) → Nowhere (FailsBundleNames b) → Answers {X = Tables} (Next (FailsTypes b.idl) (FailsMethods b.idl)) (AreSmallTables b.idl) (Err e) → Answers {X = LoadRows} (FailsBehindForms b) (IsLoadOf b) (Err e)
 tables_refused b (Refused at) none h =
-    answers_next {Y = Load} (FailsBundleNames b) (Next (FailsTypes b.idl) (Then (FailsMethods b.idl) (TableRows b.idl) (FailsBehindTables b))) (IsLoadOf b) (Err (Refused at)) none
+    answers_next {Y = LoadRows} (FailsBundleNames b) (Next (FailsTypes b.idl) (Then (FailsMethods b.idl) (TableRows b.idl) (FailsBehindTables b))) (IsLoadOf b) (Err (Refused at)) none
     (widened {X = Tables} (FailsTypes b.idl) (FailsMethods b.idl) (TableRows b.idl) (FailsBehindTables b) at.line at.rule h)
 tables_refused b Memory none h = h
 
 -- ---- the phases that need the tables
 
-pub behind_tables : (b : Bundle) (tables : Tables) (r : Result Load LoadFault) → Nowhere (FailsBundleNames b) → Nowhere (Next (FailsTypes b.idl) (FailsMethods b.idl)) → TableRows b.idl tables → Answers {X = Load} (FailsBehindTables b tables) (IsLoadOf b) r → Answers {X = Load} (FailsBehindForms b) (IsLoadOf b) r
+pub behind_tables : (b : Bundle) (tables : Tables) (r : Result LoadRows LoadFault) → Nowhere (FailsBundleNames b) → Nowhere (Next (FailsTypes b.idl) (FailsMethods b.idl)) → TableRows b.idl tables → Answers {X = LoadRows} (FailsBehindTables b tables) (IsLoadOf b) r → Answers {X = LoadRows} (FailsBehindForms b) (IsLoadOf b) r
 behind_tables b tables r names none rows h =
     let types : Nowhere (FailsTypes b.idl) = λ l n f. none l n (inl f) in
     let methods : Nowhere (FailsMethods b.idl) = λ l n f. none l n (inr (types, f)) in
-    answers_next {Y = Load} (FailsBundleNames b) (Next (FailsTypes b.idl) (Then (FailsMethods b.idl) (TableRows b.idl) (FailsBehindTables b))) (IsLoadOf b) r names
-    (answers_next {Y = Load} (FailsTypes b.idl) (Then (FailsMethods b.idl) (TableRows b.idl) (FailsBehindTables b)) (IsLoadOf b) r types
-    (second_answers {X = Tables} {Y = Load} (FailsMethods b.idl) (TableRows b.idl) (FailsBehindTables b) (IsLoadOf b) tables methods rows (λ t is. tables_once b.idl t tables is rows) r h))
+    answers_next {Y = LoadRows} (FailsBundleNames b) (Next (FailsTypes b.idl) (Then (FailsMethods b.idl) (TableRows b.idl) (FailsBehindTables b))) (IsLoadOf b) r names
+    (answers_next {Y = LoadRows} (FailsTypes b.idl) (Then (FailsMethods b.idl) (TableRows b.idl) (FailsBehindTables b)) (IsLoadOf b) r types
+    (second_answers {X = Tables} {Y = LoadRows} (FailsMethods b.idl) (TableRows b.idl) (FailsBehindTables b) (IsLoadOf b) tables methods rows (λ t is. tables_once b.idl t tables is rows) r h))
 
 -- ---- domains
 
@@ -68,9 +68,9 @@ one_domain tables b l n f = record { place = f.place; text = f.text; here = f.he
 one_of_domains : (tables : Tables) (b : Bundle) (l n : ℕ) → FailsDomain tables b l n → FailsDomains tables b.domains l n
 one_of_domains tables b l n f = record { place = f.place; text = f.text; here = f.here; fails = f.fails }
 
-pub domains_refused : (b : Bundle) (tables : Tables) (e : LoadFault) → Answers {X = List Domain} (FailsDomains tables b.domains) (λ (xs : List Domain). xs ≡ map (checked_with tables) b.domains) (Err e) → Answers {X = Load} (FailsBehindTables b tables) (IsLoadOf b) (Err e)
+pub domains_refused : (b : Bundle) (tables : Tables) (e : LoadFault) → Answers {X = List Domain} (FailsDomains tables b.domains) (λ (xs : List Domain). xs ≡ map (checked_with tables) b.domains) (Err e) → Answers {X = LoadRows} (FailsBehindTables b tables) (IsLoadOf b) (Err e)
 domains_refused b tables e h =
-    refused_next {X = List Domain} {Y = Load} (FailsDomain tables b) (Next (FailsPlanRules b) (FailsScripts tables b)) (λ (xs : List Domain). xs ≡ map (checked_with tables) b.domains) (IsLoadOf b) e
+    refused_next {X = List Domain} {Y = LoadRows} (FailsDomain tables b) (Next (FailsPlanRules b) (FailsScripts tables b)) (λ (xs : List Domain). xs ≡ map (checked_with tables) b.domains) (IsLoadOf b) e
     (same_answers {Y = List Domain} (FailsDomains tables b.domains) (FailsDomain tables b) (λ (xs : List Domain). xs ≡ map (checked_with tables) b.domains) (Err e) (one_domain tables b) (one_of_domains tables b) h)
 
 -- ---- the plan and the scripts
@@ -80,16 +80,16 @@ bundle_stays b tables checked is =
     ap (λ (ds : List Domain). bundle_of b.idl ds b.plan b.clients) is
     ∙ ap (λ (ds : List DomainText). record { idl = b.idl; domains = ds; plan = b.plan; clients = b.clients }) (texts_stay tables b.domains)
 
-is_stood_for : (b : Bundle) (tables : Tables) (checked : List Domain) (L : Load) → TableRows b.idl tables → checked ≡ map (checked_with tables) b.domains → L ≡ load_with tables checked b → IsLoadOf b L
+is_stood_for : (b : Bundle) (tables : Tables) (checked : List Domain) (L : LoadRows) → TableRows b.idl tables → checked ≡ map (checked_with tables) b.domains → L ≡ load_with tables checked b → IsLoadOf b L
 is_stood_for b tables checked L rows is same = record { tables = tables; rows = rows; stands = same ∙ ap (λ (ds : List Domain). load_with tables ds b) is }
 
-pub plan_answers : (b : Bundle) (tables : Tables) (checked : List Domain) (r : Result Load LoadFault) → TableRows b.idl tables → Nowhere (FailsDomains tables b.domains) → checked ≡ map (checked_with tables) b.domains
-    → Answers {X = Load} (Next (FailsPlanRules (bundle_of b.idl checked b.plan b.clients)) (FailsScripts tables (bundle_of b.idl checked b.plan b.clients))) (λ (L : Load). L ≡ load_with tables checked (bundle_of b.idl checked b.plan b.clients)) r
-    → Answers {X = Load} (FailsBehindTables b tables) (IsLoadOf b) r
+pub plan_answers : (b : Bundle) (tables : Tables) (checked : List Domain) (r : Result LoadRows LoadFault) → TableRows b.idl tables → Nowhere (FailsDomains tables b.domains) → checked ≡ map (checked_with tables) b.domains
+    → Answers {X = LoadRows} (Next (FailsPlanRules (bundle_of b.idl checked b.plan b.clients)) (FailsScripts tables (bundle_of b.idl checked b.plan b.clients))) (λ (L : LoadRows). L ≡ load_with tables checked (bundle_of b.idl checked b.plan b.clients)) r
+    → Answers {X = LoadRows} (FailsBehindTables b tables) (IsLoadOf b) r
 plan_answers b tables checked r rows none is h =
-    let here = subst (λ (x : Bundle). Answers {X = Load} (Next (FailsPlanRules x) (FailsScripts tables x)) (λ (L : Load). L ≡ load_with tables checked x) r) (bundle_stays b tables checked is) h in
-    answers_next {Y = Load} (FailsDomain tables b) (Next (FailsPlanRules b) (FailsScripts tables b)) (IsLoadOf b) r (λ l n f. none l n (one_of_domains tables b l n f))
-    (other_words {Y = Load} (Next (FailsPlanRules b) (FailsScripts tables b)) (λ (L : Load). L ≡ load_with tables checked b) (IsLoadOf b) r (λ L same. is_stood_for b tables checked L rows is same) here)
+    let here = subst (λ (x : Bundle). Answers {X = LoadRows} (Next (FailsPlanRules x) (FailsScripts tables x)) (λ (L : LoadRows). L ≡ load_with tables checked x) r) (bundle_stays b tables checked is) h in
+    answers_next {Y = LoadRows} (FailsDomain tables b) (Next (FailsPlanRules b) (FailsScripts tables b)) (IsLoadOf b) r (λ l n f. none l n (one_of_domains tables b l n f))
+    (other_words {Y = LoadRows} (Next (FailsPlanRules b) (FailsScripts tables b)) (λ (L : LoadRows). L ≡ load_with tables checked b) (IsLoadOf b) r (λ L same. is_stood_for b tables checked L rows is same) here)
 
 -- ---- the order of the lines
 

@@ -4,3 +4,4 @@ pub mod Apart
 pub mod Loads
 pub mod Behind
 pub mod Accepting
+pub mod OneLoad

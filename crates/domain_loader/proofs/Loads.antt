@@ -3,17 +3,17 @@ use Rattle.std.proofs.Common.{◌≡◌, List, [], ◌∷◌, map, refl, sym, ap
 use Rattle.rl_defs.specs.declared.bundle.Bundle.{Bundle}
 use Rattle.rl_defs.specs.declared.code.DomainText.{DomainText}
 use Rattle.rl_defs.specs.declared.tables.Tables.{Tables}
-use Rattle.rl_defs.specs.declared.load.Load.{Load}
+use Rattle.rl_defs.specs.declared.load.LoadRows.{LoadRows}
 use Rattle.rl_defs.specs.declared.load.LoadRow.{LoadRow}
 use Rattle.rl_defs.specs.declared.load.ClientRow.{ClientRow}
 use Rattle.rl_defs.specs.DomainValue.{Domain}
-use Rattle.rl_defs.specs.Standing.{load_of, clients_of, checked_with}
+use Rattle.rl_defs.specs.LoadOf.{load_of, clients_of, checked_with}
 use Rattle.rl_defs.specs.BundleOrder.{text_of, bundle_of}
 use Rattle.plan_checker.specs.declared.rows.PlanRows.{PlanRows}
 use Rattle.plan_checker.specs.Rows.{AreRowsOf}
 use Rattle.domain_loader.specs.Phases.{load_with}
 
-abbrev pub put_together : Tables → List Domain → PlanRows → List ClientRow → Load
+abbrev pub put_together : Tables → List Domain → PlanRows → List ClientRow → LoadRows
 put_together tables domains rows clients = record {
   tables = tables;
   domains = domains;

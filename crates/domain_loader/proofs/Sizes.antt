@@ -12,12 +12,12 @@ use Rattle.rl_defs.specs.declared.tables.StructRow.{StructRow}
 use Rattle.rl_defs.specs.declared.tables.MethodRow.{MethodRow}
 use Rattle.rl_defs.specs.declared.tables.TraitRow.{TraitRow}
 use Rattle.rl_defs.specs.declared.tables.Tables.{Tables}
-use Rattle.rl_defs.specs.Refusals.{Nowhere}
+use Rattle.rl_defs.specs.Refusals.{Nowhere, HasLine}
 use Rattle.rl_defs.specs.Interfaces.{Lines, FieldText, StructText, MethodText, TraitText, field_types, fields_of, struct_before, structs_of, types_of, types_at, method_before, methods_of, trait_before, traits_of, param_types, result_types}
 use Rattle.rl_defs.specs.Flattening.{Flattens}
-use Rattle.rl_defs.specs.TypeRules.{LineIs, FailsTypes, IsStructRow, AreStructRows}
+use Rattle.rl_defs.specs.TypeRules.{FailsTypes, IsStructRow, AreStructRows}
 use Rattle.rl_defs.specs.MethodRules.{FailsMethods, IsMethodRow, AreMethodRows, IsTraitRow, AreTraitRows, TableRows}
-use Rattle.rl_defs.specs.CodeFits.{IsMethodSmall, IsTraitSmall, IsStructSmall, AreTablesSmall}
+use Rattle.rl_defs.specs.TableSizes.{IsMethodSmall, IsTraitSmall, IsStructSmall, AreTablesSmall}
 use Rattle.proxy_tables.proofs.TableLaws.{few_methods}
 
 all_of : {X : Type 0} (P : X → Type 0) (xs : List X) → ((i : ℕ) (x : X) → slice_get xs i ≡ Some x → P x) → All P xs
@@ -26,7 +26,7 @@ all_of P (x ∷ xs) each zero d within = each 0 x refl
 all_of P (x ∷ xs) each (suc i) d within = all_of P xs (λ j y e. each (suc j) y e) i d (omega (arith, within))
 
 -- a line of a list is a line of a longer one
-later_line : (x : Numbered IdlLine) (xs : Lines) (n : ℕ) (f : IdlLine) → LineIs xs n f → LineIs (x ∷ xs) n f
+later_line : (x : Numbered IdlLine) (xs : Lines) (n : ℕ) (f : IdlLine) → HasLine xs n f → HasLine (x ∷ xs) n f
 later_line x xs n f h = record { place = suc h.place; here = h.here }
 
 -- ---- a method of a trait stands in a line
@@ -34,13 +34,13 @@ later_line x xs n f h = record { place = suc h.place; here = h.here }
 abbrev method_form : MethodText → IdlLine
 method_form m = form.Method m.name m.params m.result
 
-method_line_here : (x : Numbered IdlLine) (xs : Lines) (marked : Bool) (name : List ℕ) (params : List Param) (outcome : ResultText) (k : ℕ) (m : MethodText) → x.form ≡ form.Method name params outcome → ((k : ℕ) → slice_get (methods_of xs false) k ≡ Some m → LineIs xs m.line (method_form m)) → slice_get (record { line = x.line; name = name; idempotent = marked; params = params; result = outcome } ∷ methods_of xs false) k ≡ Some m → LineIs (x ∷ xs) m.line (method_form m)
+method_line_here : (x : Numbered IdlLine) (xs : Lines) (marked : Bool) (name : List ℕ) (params : List Param) (outcome : ResultText) (k : ℕ) (m : MethodText) → x.form ≡ form.Method name params outcome → ((k : ℕ) → slice_get (methods_of xs false) k ≡ Some m → HasLine xs m.line (method_form m)) → slice_get (record { line = x.line; name = name; idempotent = marked; params = params; result = outcome } ∷ methods_of xs false) k ≡ Some m → HasLine (x ∷ xs) m.line (method_form m)
 method_line_here x xs marked name params outcome zero m is further e =
     let same : record { line = x.line; name = name; idempotent = marked; params = params; result = outcome } ≡ m = cc in
-    subst (λ (y : MethodText). LineIs (x ∷ xs) y.line (method_form y)) same (record { place = 0; here = ap (λ (g : IdlLine). Some (record { line = x.line; form = g })) is })
+    subst (λ (y : MethodText). HasLine (x ∷ xs) y.line (method_form y)) same (record { place = 0; here = ap (λ (g : IdlLine). Some (record { line = x.line; form = g })) is })
 method_line_here x xs marked name params outcome (suc k) m is further e = later_line x xs m.line (method_form m) (further k e)
 
-method_line_step : (x : Numbered IdlLine) (xs : Lines) (marked : Bool) (f : IdlLine) (k : ℕ) (m : MethodText) → x.form ≡ f → ((b : Bool) (k : ℕ) → slice_get (methods_of xs b) k ≡ Some m → LineIs xs m.line (method_form m)) → slice_get (method_before x.line f marked (methods_of xs)) k ≡ Some m → LineIs (x ∷ xs) m.line (method_form m)
+method_line_step : (x : Numbered IdlLine) (xs : Lines) (marked : Bool) (f : IdlLine) (k : ℕ) (m : MethodText) → x.form ≡ f → ((b : Bool) (k : ℕ) → slice_get (methods_of xs b) k ≡ Some m → HasLine xs m.line (method_form m)) → slice_get (method_before x.line f marked (methods_of xs)) k ≡ Some m → HasLine (x ∷ xs) m.line (method_form m)
 method_line_step x xs marked form.Idempotent k m is further e = later_line x xs m.line (method_form m) (further true k e)
 method_line_step x xs marked (form.Method name params outcome) k m is further e = method_line_here x xs marked name params outcome k m is (further false) e
 method_line_step x xs marked (form.Struct name) k m is further e = absurd cc
@@ -48,11 +48,11 @@ method_line_step x xs marked (form.Field name ty) k m is further e = absurd cc
 method_line_step x xs marked (form.Trait name) k m is further e = absurd cc
 method_line_step x xs marked form.Close k m is further e = absurd cc
 
-method_line : (lines : Lines) (marked : Bool) (k : ℕ) (m : MethodText) → slice_get (methods_of lines marked) k ≡ Some m → LineIs lines m.line (method_form m)
+method_line : (lines : Lines) (marked : Bool) (k : ℕ) (m : MethodText) → slice_get (methods_of lines marked) k ≡ Some m → HasLine lines m.line (method_form m)
 method_line [] marked k m e = absurd cc
 method_line (x ∷ xs) marked k m e = method_line_step x xs marked x.form k m refl (λ b j. method_line xs b j m) e
 
-trait_line_step : (x : Numbered IdlLine) (xs : Lines) (f : IdlLine) (t k : ℕ) (text : TraitText) (m : MethodText) → slice_get text.methods k ≡ Some m → ((t : ℕ) → slice_get (traits_of xs) t ≡ Some text → LineIs xs m.line (method_form m)) → slice_get (trait_before x.line f (methods_of xs false) (traits_of xs)) t ≡ Some text → LineIs xs m.line (method_form m)
+trait_line_step : (x : Numbered IdlLine) (xs : Lines) (f : IdlLine) (t k : ℕ) (text : TraitText) (m : MethodText) → slice_get text.methods k ≡ Some m → ((t : ℕ) → slice_get (traits_of xs) t ≡ Some text → HasLine xs m.line (method_form m)) → slice_get (trait_before x.line f (methods_of xs false) (traits_of xs)) t ≡ Some text → HasLine xs m.line (method_form m)
 trait_line_step x xs (form.Trait name) zero k text m at further e =
     let same : record { line = x.line; name = name; methods = methods_of xs false } ≡ text = cc in
     method_line xs false k m (subst (λ (y : TraitText). slice_get y.methods k ≡ Some m) (sym same) at)
@@ -63,7 +63,7 @@ trait_line_step x xs (form.Struct name) t k text m at further e = further t e
 trait_line_step x xs (form.Field name ty) t k text m at further e = further t e
 trait_line_step x xs form.Close t k text m at further e = further t e
 
-trait_line : (lines : Lines) (t k : ℕ) (text : TraitText) (m : MethodText) → slice_get (traits_of lines) t ≡ Some text → slice_get text.methods k ≡ Some m → LineIs lines m.line (method_form m)
+trait_line : (lines : Lines) (t k : ℕ) (text : TraitText) (m : MethodText) → slice_get (traits_of lines) t ≡ Some text → slice_get text.methods k ≡ Some m → HasLine lines m.line (method_form m)
 trait_line [] t k text m e at = absurd cc
 trait_line (x ∷ xs) t k text m e at = later_line x xs m.line (method_form m) (trait_line_step x xs x.form t k text m at (λ u. λ h. trait_line xs u k text m h at) e)
 
@@ -149,7 +149,7 @@ struct_small idl tables s row none rows e =
       | inr few ↦ few
     ]
 
-method_small : (idl : Idl) (text : MethodText) (row : MethodRow) → Nowhere (FailsMethods idl) → LineIs idl.lines text.line (method_form text) → IsMethodRow idl.lines text row → IsMethodSmall row
+method_small : (idl : Idl) (text : MethodText) (row : MethodRow) → Nowhere (FailsMethods idl) → HasLine idl.lines text.line (method_form text) → IsMethodRow idl.lines text row → IsMethodSmall row
 method_small idl text row none at is = record {
   params = elim (cases_lt 8 (length row.params)) [
     | inl many ↦ absurd (none text.line 23 (inr (inr (inr (

@@ -6,14 +6,14 @@ use Rattle.rl_defs.specs.declared.idl.Idl.{Idl}
 use Rattle.rl_defs.specs.declared.code.DomainLine.{DomainLine}
 use Rattle.rl_defs.specs.declared.code.DomainText.{DomainText}
 use Rattle.rl_defs.specs.declared.tables.Tables.{Tables}
-use Rattle.rl_defs.specs.declared.load.Load.{Load}
+use Rattle.rl_defs.specs.declared.load.LoadRows.{LoadRows}
 use Rattle.rl_defs.specs.DomainValue.{Domain}
 use Rattle.rl_defs.specs.CodeRules.{FailsCode}
-use Rattle.rl_defs.specs.CodeFits.{AreTablesSmall}
+use Rattle.rl_defs.specs.TableSizes.{AreTablesSmall}
 use Rattle.rl_defs.specs.MethodRules.{TableRows}
-use Rattle.rl_defs.specs.Standing.{load_of, loads_of, shadows_of, clients_of, order_of, fuel_of, device_of, blocks_of, checked_with}
+use Rattle.rl_defs.specs.LoadOf.{load_of, loads_of, shadows_of, clients_of, order_of, fuel_of, device_of, blocks_of, checked_with}
 use Rattle.rl_defs.specs.BundleOrder.{IsDomainText, Rise, numbers_of}
-use Rattle.rl_defs.specs.Acceptance.{HasNames}
+use Rattle.rl_defs.specs.EarlierRules.{HasNames}
 use Rattle.std.specs.List.{flat_map}
 
 -- the tables of an interface part, as large as its rules let them be
@@ -41,7 +41,7 @@ pub record IsReady (tables : Tables) (b : Bundle) : Type 0 where
   pub small : AreTablesSmall tables
 
 -- the load of these domains, and of the plan and the clients of a bundle
-abbrev pub load_with : Tables → List Domain → Bundle → Load
+abbrev pub load_with : Tables → List Domain → Bundle → LoadRows
 load_with tables domains b = record {
   tables = tables;
   domains = domains;
@@ -55,7 +55,7 @@ load_with tables domains b = record {
 }
 
 -- the load that a bundle stands for
-pub record IsLoadOf (b : Bundle) (L : Load) : Type 0 where
+pub record IsLoadOf (b : Bundle) (L : LoadRows) : Type 0 where
   pub tables : Tables
   pub rows : TableRows b.idl tables
   pub stands : L ≡ load_of tables b

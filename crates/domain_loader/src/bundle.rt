@@ -2,23 +2,24 @@
 ghost use Rattle.std.specs.Prelude.{◌≡◌, map};
 ghost use Rattle.rl_defs.specs.declared.idl.Idl.{Idl};
 ghost use Rattle.rl_defs.specs.Refusals.{Answers};
-ghost use Rattle.rl_defs.specs.CodeFits.{AreTablesSmall};
+ghost use Rattle.rl_defs.specs.TableSizes.{AreTablesSmall};
 ghost use Rattle.rl_defs.specs.MethodRules.{TableRows};
 ghost use Rattle.rl_defs.specs.PlanRules.{FailsPlanRules};
 ghost use Rattle.rl_defs.specs.ScriptRules.{FailsScripts};
 ghost use Rattle.rl_defs.specs.BundleOrder.{IsOrdered, bundle_of};
-ghost use Rattle.rl_defs.specs.Acceptance.{Next, FailsBehindForms, HasNames};
+ghost use Rattle.rl_defs.specs.Acceptance.{Next, FailsBehindForms};
+ghost use Rattle.rl_defs.specs.EarlierRules.{HasNames};
 ghost use Rattle.domain_loader.specs.Phases.{IsReady, IsLoadOf, load_with};
 
 use crate::domains::check_domains;
 use crate::tables::tables_of;
-use bundle_names::check::check_names;
+use bundle_names::check_names;
 use plan_checker::check::check_plan;
 use rl_defs::LoadFault;
 use rl_defs::bundle::{Bundle, Clients, Plan};
 use rl_defs::checked::CheckedDomain;
 use rl_defs::list::List;
-use rl_defs::load::Load;
+use rl_defs::load::LoadRows;
 use rl_defs::tables::SharedTables;
 use script_checker::checker::check_scripts;
 use std::alloc::Global;
@@ -30,7 +31,7 @@ fn load_checked(
     domains: List<CheckedDomain>,
     plan: Plan,
     clients: Clients,
-) -> Result<Load, LoadFault>
+) -> Result<LoadRows, LoadFault>
     requires { (idl : Idl) × IsReady tables (bundle_of idl domains plan clients) }
     ensures { (idl : Idl) → let b = bundle_of idl domains plan clients in
         Answers (Next (FailsPlanRules b) (FailsScripts tables b)) (λ load. load ≡ load_with tables domains b) result }
@@ -43,7 +44,7 @@ fn load_checked(
         Ok(clients) => clients,
         Err(fault) => return Err(fault),
     };
-    Ok(Load {
+    Ok(LoadRows {
         tables,
         domains,
         loads: rows.loads,
@@ -57,7 +58,7 @@ fn load_checked(
 }
 
 /// The load that a bundle stands for, by its lines.
-pub fn load_bundle(alloc: Global, bundle: Bundle) -> Result<Load, LoadFault>
+pub fn load_bundle(alloc: Global, bundle: Bundle) -> Result<LoadRows, LoadFault>
     requires { IsOrdered bundle }
     ensures { Answers (FailsBehindForms bundle) (IsLoadOf bundle) result }
 {

@@ -2,11 +2,11 @@
 ghost use Rattle.std.specs.Prelude.{◌≡◌, ◌++◌, ◌∷◌, [], map};
 ghost use Rattle.rl_defs.specs.declared.code.DomainText.{DomainText as Text};
 ghost use Rattle.rl_defs.specs.Refusals.{Answers};
-ghost use Rattle.rl_defs.specs.CodeFits.{AreTablesSmall};
-ghost use Rattle.rl_defs.specs.Standing.{checked_with};
+ghost use Rattle.rl_defs.specs.TableSizes.{AreTablesSmall};
+ghost use Rattle.rl_defs.specs.LoadOf.{checked_with};
 ghost use Rattle.domain_loader.specs.Phases.{FailsDomains, InOrder};
 
-use domain_checker::checker::Checker;
+use domain_checker::Checker;
 use rl_defs::LoadFault;
 use rl_defs::checked::CheckedDomain;
 use rl_defs::code::DomainText;

@@ -3,5 +3,6 @@
 
 mod bundle;
 mod domains;
+pub mod laws;
 pub mod load;
 mod tables;

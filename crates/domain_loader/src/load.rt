@@ -7,10 +7,10 @@ ghost use Rattle.rl_defs.specs.BundleOrder.{IsOrdered};
 ghost use Rattle.rl_defs.specs.Acceptance.{Fails, Accepted};
 
 use crate::bundle::load_bundle;
-use bundle_parts::read::read_bundle;
+use bundle_parts::read_bundle;
 use rl_defs::LoadFault;
 use rl_defs::bundle::Bundle;
-use rl_defs::load::Load;
+use rl_defs::load::{Load, LoadRows};
 use rl_text::line::{LONGEST_TEXT, lines};
 use std::alloc::Global;
 
@@ -26,6 +26,17 @@ fn read(alloc: Global, bytes: &[u8]) -> Result<Bundle, LoadFault>
     read_bundle(alloc, bytes, &lines)
 }
 
+// The rows of the load that a bundle stands for.
+fn load_rows(alloc: Global, bytes: &[u8]) -> Result<LoadRows, LoadFault>
+    requires { length bytes.now ≤ LONGEST_TEXT }
+    ensures { Answers (Fails bytes.now) (Accepted bytes.now) result }
+{
+    match read(alloc, bytes) {
+        Ok(bundle) => load_bundle(alloc, bundle),
+        Err(fault) => Err(fault),
+    }
+}
+
 /// The load that a bundle stands for, by its bytes. It is refused where a rule fails: of the rules' phases the first that has a failing
 /// line is looked at, of its failing lines the first, and of the rules that fail there the lowest. The phases are the rules 1 and 2; 3
 /// and 4; 10 to 13; 20 to 23; 30 to 37; 40 to 46; 50 and 51.
@@ -33,8 +44,8 @@ pub fn load(alloc: Global, bytes: &[u8]) -> Result<Load, LoadFault>
     requires { length bytes.now ≤ LONGEST_TEXT }
     ensures { Answers (Fails bytes.now) (Accepted bytes.now) result }
 {
-    match read(alloc, bytes) {
-        Ok(bundle) => load_bundle(alloc, bundle),
+    match load_rows(alloc, bytes) {
+        Ok(rows) => Ok(Load::new(rows)),
         Err(fault) => Err(fault),
     }
 }

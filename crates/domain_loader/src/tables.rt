@@ -7,8 +7,8 @@ ghost use Rattle.rl_defs.specs.MethodRules.{FailsMethods};
 ghost use Rattle.rl_defs.specs.Acceptance.{Next};
 ghost use Rattle.domain_loader.specs.Phases.{AreSmallTables};
 
-use exchangeable_types::check::check_types;
-use proxy_tables::build::build;
+use exchangeable_types::check_types;
+use proxy_tables::build;
 use rl_defs::LoadFault;
 use rl_defs::idl::Idl;
 use rl_defs::tables::SharedTables;

@@ -14,7 +14,7 @@ use Rattle.rl_defs.specs.declared.tables.Kind.TheVariants as kind
 use Rattle.rl_defs.specs.declared.tables.StructRow.{StructRow}
 use Rattle.rl_defs.specs.Interfaces.{Lines, StructText, struct_before, structs_of, fields_of, types_of, types_at, field_types, struct_name, names_by, struct_names}
 use Rattle.rl_defs.specs.Flattening.{struct_held, Flattens, Ends, Plain, Fields}
-use Rattle.rl_defs.specs.Holding.{HasField, Leads, IsEndless, HoldsRRef}
+use Rattle.rl_defs.specs.Holding.{HasField, FieldsLead, IsEndless, HoldsRRef}
 use Rattle.rl_defs.specs.TypeRules.{StructAt, IsStructRow, AreStructRows}
 use Rattle.rl_defs.proofs.FlatteningLaws.{flattens_once}
 use Rattle.rl_defs.proofs.HoldingLaws.{fields_end}
@@ -120,7 +120,7 @@ no_types lines s le = ap field_types (slice_get_past (structs_of lines) s (omega
 no_field : (lines : Lines) (s t : ℕ) → length (struct_names lines) ≤ s → HasField lines s t → ⊥
 no_field lines s t le f = let e = subst (λ (xs : List TypeText). slice_get xs f.place ≡ Some f.ty) (no_types lines s le) f.here in cc
 
-no_lead : (lines : Lines) (s : ℕ) (us : List ℕ) (t : ℕ) → length (struct_names lines) ≤ s → Leads lines s us t → ⊥
+no_lead : (lines : Lines) (s : ℕ) (us : List ℕ) (t : ℕ) → length (struct_names lines) ≤ s → FieldsLead lines s us t → ⊥
 no_lead lines s [] t le f = no_field lines s t le f
 no_lead lines s (u ∷ us) t le f = no_field lines s u le f.0
 

@@ -4,9 +4,9 @@ ghost use Rattle.rl_defs.specs.declared.tables.Kind.{Kind as KindValue};
 ghost use Rattle.rl_defs.specs.Flattening.{copies};
 ghost use Rattle.exchangeable_types.specs.Capped.{IsCapped};
 
-use rl_defs::Memory;
 use rl_defs::list::List;
 use rl_defs::tables::Kind;
+use std::alloc::AllocError;
 
 /// The most cells that a struct may have.
 pub const MOST: usize = 512;
@@ -24,7 +24,7 @@ pub enum Cells {
 }
 
 // The list with so many times these kinds behind it.
-fn extended(list: List<Kind>, kinds: &[Kind], times: u32) -> Result<List<Kind>, Memory>
+fn extended(list: List<Kind>, kinds: &[Kind], times: u32) -> Result<List<Kind>, AllocError>
     requires room { length list + length kinds.now * times ≤ 512 }
     ensures { IfOk result (λ l. l ≡ list ++ copies times kinds.now) }
 {
@@ -36,7 +36,7 @@ fn extended(list: List<Kind>, kinds: &[Kind], times: u32) -> Result<List<Kind>, 
 }
 
 // The same, for several kinds. Room for all of them is made at once.
-fn repeated(list: List<Kind>, kinds: &[Kind], times: u32) -> Result<List<Kind>, Memory>
+fn repeated(list: List<Kind>, kinds: &[Kind], times: u32) -> Result<List<Kind>, AllocError>
     requires room { length list + length kinds.now * times ≤ 512 }
     ensures { IfOk result (λ l. l ≡ list ++ copies times kinds.now) }
 {
@@ -51,7 +51,7 @@ fn repeated(list: List<Kind>, kinds: &[Kind], times: u32) -> Result<List<Kind>, 
 }
 
 // Puts so many times these kinds last. They are put together to a block first, so that there are fewer copies, of more kinds each.
-fn append_blocks(items: &mut Vec<Kind>, kinds: &[Kind], times: u32) -> Result<(), Memory>
+fn append_blocks(items: &mut Vec<Kind>, kinds: &[Kind], times: u32) -> Result<(), AllocError>
     requires many { 16 ≤ times }
     requires room { length kinds.now * times ≤ 512 }
     ensures { OnOk result (items.new.items ≡ items.old.items ++ copies times kinds.now) }
@@ -64,7 +64,7 @@ fn append_blocks(items: &mut Vec<Kind>, kinds: &[Kind], times: u32) -> Result<()
 }
 
 // Puts so many times these kinds last, each time for itself.
-fn append_times(items: &mut Vec<Kind>, kinds: &[Kind], times: u32) -> Result<(), Memory>
+fn append_times(items: &mut Vec<Kind>, kinds: &[Kind], times: u32) -> Result<(), AllocError>
     ensures { OnOk result (items.new.items ≡ items.old.items ++ copies times kinds.now) }
 {
     'times: for _ in 0..times {
@@ -74,42 +74,35 @@ fn append_times(items: &mut Vec<Kind>, kinds: &[Kind], times: u32) -> Result<(),
 }
 
 // The list with so many times this kind behind it.
-fn filled(list: List<Kind>, kind: Kind, times: u32) -> Result<List<Kind>, Memory>
+fn filled(list: List<Kind>, kind: Kind, times: u32) -> Result<List<Kind>, AllocError>
     requires room { length list + times ≤ 512 }
     ensures { IfOk result (λ l. l ≡ list ++ copies times (kind ∷ [])) }
 {
     let mut items = list.into_vec();
-    match items.resize(items.len() + times as usize, kind) {
-        Ok(()) => Ok(List::from_vec(items)),
-        Err(_) => Err(Memory),
-    }
+    items.resize(items.len() + times as usize, kind)?;
+    Ok(List::from_vec(items))
 }
 
 // Makes room for so many kinds more.
-fn reserve(items: &mut Vec<Kind>, more: usize) -> Result<(), Memory>
+fn reserve(items: &mut Vec<Kind>, more: usize) -> Result<(), AllocError>
     ensures { items.new.items ≡ items.old.items }
 {
-    match items.reserve(more) {
-        Ok(()) => Ok(()),
-        Err(_) => Err(Memory),
-    }
+    items.reserve(more)
 }
 
-fn append(items: &mut Vec<Kind>, kinds: &[Kind]) -> Result<(), Memory>
+fn append(items: &mut Vec<Kind>, kinds: &[Kind]) -> Result<(), AllocError>
     ensures { OnOk result (items.new.items ≡ items.old.items ++ kinds.now) }
 {
-    match items.extend_from_slice(kinds) {
-        Ok(()) => Ok(()),
-        Err(_) => Err(Memory),
-    }
+    items.extend_from_slice(kinds)
 }
 
 /// The cells with so many times these kinds behind them, up to the limit.
-pub fn put(limit: usize, cells: Cells, kinds: &[Kind], times: u32) -> Result<Cells, Memory>
+pub fn put(limit: usize, cells: Cells, kinds: &[Kind], times: u32) -> Result<Cells, AllocError>
     requires few { length kinds.now ≤ 512 }
     requires counted { times ≤ 513 }
     requires low { limit ≤ 512 }
-    ensures { IfOk result (λ more. (before : List KindValue) (n : ℕ) → IsCapped limit before cells → times ≡ min 513 n → IsCapped limit (before ++ copies n kinds.now) more) }
+    ensures { IfOk result (λ more. (before : List KindValue) (n : ℕ) → IsCapped limit before cells → times ≡ min 513 n
+        → IsCapped limit (before ++ copies n kinds.now) more) }
 {
     match cells {
         Cells::TooMany => Ok(Cells::TooMany),
@@ -123,9 +116,10 @@ pub fn put(limit: usize, cells: Cells, kinds: &[Kind], times: u32) -> Result<Cel
 }
 
 /// The cells with so many times the cells of a struct behind them, up to 512.
-pub fn put_struct(cells: Cells, inner: &Cells, times: u32) -> Result<Cells, Memory>
+pub fn put_struct(cells: Cells, inner: &Cells, times: u32) -> Result<Cells, AllocError>
     requires counted { times ≤ 513 }
-    ensures { IfOk result (λ more. (before kinds : List KindValue) (n : ℕ) → IsCapped 512 before cells → IsCapped 512 kinds inner.now → times ≡ min 513 n → IsCapped 512 (before ++ copies n kinds) more) }
+    ensures { IfOk result (λ more. (before kinds : List KindValue) (n : ℕ) → IsCapped 512 before cells
+        → IsCapped 512 kinds inner.now → times ≡ min 513 n → IsCapped 512 (before ++ copies n kinds) more) }
 {
     match inner {
         Cells::TooMany => {

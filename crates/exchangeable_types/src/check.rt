@@ -8,7 +8,7 @@ ghost use Rattle.rl_defs.specs.Interfaces.{Rises};
 ghost use Rattle.exchangeable_types.specs.BadLines.{IsFirstBad, IsFirstRefusal};
 
 use crate::part::Part;
-use crate::rows::{refused, struct_rows};
+use crate::rows::struct_rows;
 use crate::types::has_bad_type;
 use rl_defs::bundle::Numbered;
 use rl_defs::idl::{Idl, IdlLine};
@@ -32,9 +32,7 @@ pub fn check_types(alloc: Global, idl: &Idl) -> Result<Types, LoadFault>
     ensures { Answers (FailsTypes idl.now) (λ types. StructRows idl.now types.structs) result }
 {
     let lines = idl.lines.as_slice();
-    let Ok(part) = Part::new(alloc, lines) else {
-        return Err(LoadFault::Memory);
-    };
+    let part = Part::new(alloc, lines)?;
     earlier(idl, first_bad(lines), struct_rows(alloc, &part))
 }
 
@@ -82,7 +80,7 @@ fn earlier(
 {
     match rows {
         Ok(structs) => match bad {
-            Some(line) => Err(refused(line, 10)),
+            Some(line) => Err(LoadFault::refused(line, 10)),
             None => Ok(Types { structs }),
         },
         Err(LoadFault::Refused(at)) => Err(earlier_refusal(idl, bad, at)),
@@ -100,7 +98,7 @@ fn earlier_refusal(idl: &Idl, bad: Option<u32>, at: Refusal) -> LoadFault
         return LoadFault::Refused(at);
     };
     if line <= at.line {
-        return refused(line, 10);
+        return LoadFault::refused(line, 10);
     }
     LoadFault::Refused(at)
 }

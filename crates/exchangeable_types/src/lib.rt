@@ -1,14 +1,20 @@
 //! Which types may cross a domain boundary, and what they flatten to (RedLeaf, section 3.1: exchangeable types).
 #![tactic(auto)]
 
-pub mod cells;
+mod cells;
 pub mod check;
 pub mod laws;
 mod nesting;
-pub mod part;
-pub mod rows;
-pub mod search;
+mod part;
+mod rows;
+mod search;
 #[cfg(test)]
 mod tests;
-pub mod types;
-pub mod walk;
+mod types;
+mod walk;
+
+// What the tables of proxies are made with.
+pub use cells::{Cells, put};
+pub use check::{Types, check_types};
+pub use part::{Part, trait_name};
+pub use types::{is_lent, kind_held, result_types, struct_held, times};

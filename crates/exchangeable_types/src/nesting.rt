@@ -10,9 +10,8 @@ use crate::rows::is_nested_kind;
 use crate::search::mark;
 use crate::types::{field_at, kind_held, struct_held};
 use crate::walk::start_of;
-use rl_defs::Memory;
 use rl_defs::idl::TypeText;
-use std::alloc::Global;
+use std::alloc::{AllocError, Global};
 
 // Whether a type is an `RRef` of a struct that holds an `RRef`.
 fn is_nesting(
@@ -20,7 +19,7 @@ fn is_nesting(
     part: &Part,
     seen: &mut Vec<bool>,
     ty: &TypeText,
-) -> Result<bool, Memory>
+) -> Result<bool, AllocError>
     requires { Searching part.now.lines.now seen.old.items [] }
     ensures { IfOk result (IsNesting part.now.lines.now ty.now seen.new.items) }
 {
@@ -38,10 +37,11 @@ fn scan(
     passed: &mut Vec<bool>,
     waiting: &mut Vec<u32>,
     number: u32,
-) -> Result<bool, Memory>
+) -> Result<bool, AllocError>
     requires searching { Searching part.now.lines.now seen.old.items [] }
     requires passing { Passing part.now.lines.now passed.old.items (waiting.old.items ++ number ∷ []) }
-    ensures { IfOk result (IsPass part.now.lines.now seen.new.items passed.old.items passed.new.items waiting.old.items waiting.new.items) }
+    ensures { IfOk result (IsPass part.now.lines.now seen.new.items
+        passed.old.items passed.new.items waiting.old.items waiting.new.items) }
 {
     let mut at = start_of(part, number) + 1;
     'fields: while let Some(ty) = field_at(part.lines, at) {
@@ -64,7 +64,7 @@ pub fn may_nest(
     seen: &mut Vec<bool>,
     passed: &mut Vec<bool>,
     first: u32,
-) -> Result<bool, Memory>
+) -> Result<bool, AllocError>
     requires searching { Searching part.now.lines.now seen.old.items [] }
     requires passing { Passing part.now.lines.now passed.old.items [] }
     requires below { first < length (struct_names part.now.lines.now) }

@@ -6,12 +6,11 @@ ghost use Rattle.rl_defs.specs.Interfaces.{place_of, struct_name, trait_name, st
 ghost use Rattle.exchangeable_types.specs.Numbering.{noted, starts_from};
 
 use indexmap::IndexMap;
-use rl_defs::Memory;
 use rl_defs::bundle::Numbered;
 use rl_defs::idl::IdlLine;
 use rl_defs::list::List;
 use rl_defs::name::Name;
-use std::alloc::Global;
+use std::alloc::{AllocError, Global};
 
 /// Numbers by names.
 pub type NameTable = IndexMap<Name, u32>;
@@ -31,7 +30,7 @@ pub struct Part<'a> {
 
 impl<'a> Part<'a> {
     /// The part of these lines.
-    pub fn new(alloc: Global, lines: &'a [Numbered<IdlLine>]) -> Result<Part<'a>, Memory>
+    pub fn new(alloc: Global, lines: &'a [Numbered<IdlLine>]) -> Result<Part<'a>, AllocError>
         requires { length lines.now < 2 ^ 32 }
         ensures { IfOk result (λ part. part.lines.now ≡ lines.now) }
     {
@@ -82,34 +81,29 @@ pub fn trait_name(line: &IdlLine) -> Option<Name>
 }
 
 // Gives a name that is there another number.
-fn put_back(table: &mut NameTable, name: &Name, number: u32) -> Result<(), Memory>
+fn put_back(table: &mut NameTable, name: &Name, number: u32) -> Result<(), AllocError>
     ensures { OnOk result (Updates (pointwise nat_eq) table.old table.new name.now (Some number)) }
 {
-    match table.insert(*name, number) {
-        Ok(_) => Ok(()),
-        Err(_) => Err(Memory),
-    }
+    table.insert(*name, number)?;
+    Ok(())
 }
 
 // Notes a name with its number, unless it is there. Most names are new, so it is put first, and put back where it was there.
-fn note(table: &mut NameTable, name: &Name, number: u32) -> Result<(), Memory>
-    ensures { OnOk result ((q : List ℕ) → get (pointwise nat_eq) table.new q ≡ noted (get (pointwise nat_eq) table.old) name.now number q) }
+fn note(table: &mut NameTable, name: &Name, number: u32) -> Result<(), AllocError>
+    ensures { let before = get (pointwise nat_eq) table.old in let after = get (pointwise nat_eq) table.new in
+        OnOk result ((q : List ℕ) → after q ≡ noted before name.now number q) }
 {
-    match table.insert(*name, number) {
-        Ok(None) => Ok(()),
-        Ok(Some(earlier)) => put_back(table, name, earlier),
-        Err(_) => Err(Memory),
+    match table.insert(*name, number)? {
+        None => Ok(()),
+        Some(earlier) => put_back(table, name, earlier),
     }
 }
 
 // A table with room for so many names.
-fn table_for(alloc: Global, names: usize) -> Result<NameTable, Memory>
+fn table_for(alloc: Global, names: usize) -> Result<NameTable, AllocError>
     ensures { IfOk result IsEmpty }
 {
-    match IndexMap::with_capacity(alloc, names) {
-        Ok(table) => Ok(table),
-        Err(_) => Err(Memory),
-    }
+    IndexMap::with_capacity(alloc, names)
 }
 
 // The table has room for so many structs at once.
@@ -117,7 +111,7 @@ fn structs_by_name(
     alloc: Global,
     lines: &[Numbered<IdlLine>],
     structs: usize,
-) -> Result<NameTable, Memory>
+) -> Result<NameTable, AllocError>
     requires { length lines.now < 2 ^ 32 }
     ensures { IfOk result (λ t. (q : List ℕ) → get (pointwise nat_eq) t q ≡ place_of q (struct_names lines.now)) }
 {
@@ -132,7 +126,7 @@ fn structs_by_name(
     Ok(table)
 }
 
-fn traits_by_name(alloc: Global, lines: &[Numbered<IdlLine>]) -> Result<NameTable, Memory>
+fn traits_by_name(alloc: Global, lines: &[Numbered<IdlLine>]) -> Result<NameTable, AllocError>
     requires { length lines.now < 2 ^ 32 }
     ensures { IfOk result (λ t. (q : List ℕ) → get (pointwise nat_eq) t q ≡ place_of q (trait_names lines.now)) }
 {
@@ -147,7 +141,7 @@ fn traits_by_name(alloc: Global, lines: &[Numbered<IdlLine>]) -> Result<NameTabl
     Ok(table)
 }
 
-fn starts_of(alloc: Global, lines: &[Numbered<IdlLine>]) -> Result<List<u32>, Memory>
+fn starts_of(alloc: Global, lines: &[Numbered<IdlLine>]) -> Result<List<u32>, AllocError>
     requires { length lines.now < 2 ^ 32 }
     ensures { IfOk result (λ starts. starts ≡ starts_from 0 lines.now) }
 {

@@ -13,11 +13,11 @@ use crate::nesting::may_nest;
 use crate::part::{Part, struct_name};
 use crate::search::search;
 use crate::walk::{State, count, start_of, walk};
+use rl_defs::LoadFault;
 use rl_defs::list::List;
 use rl_defs::name::Name;
 use rl_defs::tables::{Kind, StructRow};
-use rl_defs::{LoadFault, Memory, Refusal};
-use std::alloc::Global;
+use std::alloc::{AllocError, Global};
 use std::mem;
 
 /// The first line of a struct: its number, and the struct's name.
@@ -47,7 +47,7 @@ fn is_nested(
     part: &Part,
     seen: &mut Vec<bool>,
     kinds: &[Kind],
-) -> Result<bool, Memory>
+) -> Result<bool, AllocError>
     requires { Searching part.now.lines.now seen.old.items [] }
     ensures { IfOk result (IsNested part.now.lines.now kinds.now seen.new.items) }
 {
@@ -65,7 +65,7 @@ pub(crate) fn is_nested_kind(
     part: &Part,
     seen: &mut Vec<bool>,
     kind: Kind,
-) -> Result<bool, Memory>
+) -> Result<bool, AllocError>
     requires { Searching part.now.lines.now seen.old.items [] }
     ensures { IfOk result (IsNested part.now.lines.now (kind ∷ []) seen.new.items) }
 {
@@ -93,7 +93,7 @@ fn nests(
     passed: &mut Vec<bool>,
     number: u32,
     kinds: &[Kind],
-) -> Result<bool, Memory>
+) -> Result<bool, AllocError>
     requires below { number < length (struct_names part.now.lines.now) }
     requires flat { Flattens part.now.lines.now (types_at part.now.lines.now number) kinds.now }
     requires searching { Searching part.now.lines.now seen.old.items [] }
@@ -106,13 +106,6 @@ fn nests(
     *seen = none_seen(alloc, part)?;
     *passed = none_seen(alloc, part)?;
     is_nested(alloc, part, seen, kinds)
-}
-
-/// A refusal of a line by a rule.
-pub fn refused(line: u32, rule: u8) -> LoadFault
-    ensures { result ≡ LoadFault.Refused (record { line = line; rule = rule }) }
-{
-    LoadFault::Refused(Refusal { line, rule })
 }
 
 // The row of a struct, or the lowest rule that refuses it.
@@ -134,11 +127,11 @@ fn row_of(
 {
     let head = head_of(part, number);
     match state {
-        State::Endless => Err(refused(head.line, 11)),
-        State::Ended(Cells::TooMany) => Err(refused(head.line, 12)),
+        State::Endless => Err(LoadFault::refused(head.line, 11)),
+        State::Ended(Cells::TooMany) => Err(LoadFault::refused(head.line, 12)),
         State::Ended(Cells::Few(flat)) => {
             match nests(alloc, part, seen, passed, number, flat.as_slice()) {
-                Ok(true) => Err(refused(head.line, 13)),
+                Ok(true) => Err(LoadFault::refused(head.line, 13)),
                 Ok(false) => Ok(StructRow {
                     name: head.name,
                     flat,
@@ -177,28 +170,18 @@ fn next_row(
     ensures err { IfErr result (λ e. IsRowAnswer part.now.lines.now number (Err e)) }
 {
     let state = take(states, number);
-    let row = row_of(alloc, part, seen, passed, number, state);
-    match row {
-        Ok(row) => match rows.push(row) {
-            Ok(()) => Ok(()),
-            Err(_) => Err(LoadFault::Memory),
-        },
-        Err(fault) => Err(fault),
-    }
+    let row = row_of(alloc, part, seen, passed, number, state)?;
+    rows.push(row)?;
+    Ok(())
 }
 
-fn none_seen(alloc: Global, part: &Part) -> Result<Vec<bool>, Memory>
+fn none_seen(alloc: Global, part: &Part) -> Result<Vec<bool>, AllocError>
     ensures searching { IfOk result (λ seen. Searching part.now.lines.now seen.items []) }
     ensures passing { IfOk result (λ seen. Passing part.now.lines.now seen.items []) }
 {
-    let Ok(mut seen) = Vec::with_capacity(alloc, part.starts.len()) else {
-        return Err(Memory);
-    };
+    let mut seen = Vec::with_capacity(alloc, part.starts.len())?;
     'structs: for _ in 0..part.starts.len() {
-        match seen.push(false) {
-            Ok(()) => {}
-            Err(_) => return Err(Memory),
-        }
+        seen.push(false)?;
     }
     Ok(seen)
 }
@@ -208,21 +191,13 @@ pub fn struct_rows(alloc: Global, part: &Part) -> Result<List<StructRow>, LoadFa
     requires { Rises part.now.lines.now }
     ensures { Answers (FailsStructs part.now.lines.now) (AllRows part.now.lines.now) result }
 {
-    let Ok(mut states) = walk(alloc, part) else {
-        return Err(LoadFault::Memory);
-    };
-    let Ok(mut seen) = none_seen(alloc, part) else {
-        return Err(LoadFault::Memory);
-    };
-    let Ok(mut passed) = none_seen(alloc, part) else {
-        return Err(LoadFault::Memory);
-    };
-    let Ok(room) = Vec::with_capacity(alloc, part.starts.len()) else {
-        return Err(LoadFault::Memory);
-    };
+    let mut states = walk(alloc, part)?;
+    let mut seen = none_seen(alloc, part)?;
+    let mut passed = none_seen(alloc, part)?;
+    let room = Vec::with_capacity(alloc, part.starts.len())?;
     let mut rows = List::from_vec(room);
     'structs: for number in 0..count(part) {
-        if let Err(fault) = next_row(
+        next_row(
             alloc,
             part,
             &mut states,
@@ -230,9 +205,7 @@ pub fn struct_rows(alloc: Global, part: &Part) -> Result<List<StructRow>, LoadFa
             &mut passed,
             &mut rows,
             number,
-        ) {
-            return Err(fault);
-        }
+        )?;
     }
     Ok(rows)
 }

@@ -6,11 +6,10 @@ ghost use Rattle.exchangeable_types.specs.Search.{Searching, Marks, IsScan, IsSe
 use crate::part::Part;
 use crate::types::{field_at, holds_rref, struct_held};
 use crate::walk::start_of;
-use rl_defs::Memory;
-use std::alloc::Global;
+use std::alloc::{AllocError, Global};
 
 /// Marks a struct to be looked at, unless it was seen.
-pub fn mark(seen: &mut Vec<bool>, waiting: &mut Vec<u32>, held: u32) -> Result<(), Memory>
+pub fn mark(seen: &mut Vec<bool>, waiting: &mut Vec<u32>, held: u32) -> Result<(), AllocError>
     requires { held < length seen.old.items }
     ensures { OnOk result (Marks seen.old.items seen.new.items waiting.old.items waiting.new.items held) }
 {
@@ -18,10 +17,8 @@ pub fn mark(seen: &mut Vec<bool>, waiting: &mut Vec<u32>, held: u32) -> Result<(
         return Ok(());
     }
     seen[held as usize] = true;
-    match waiting.push(held) {
-        Ok(()) => Ok(()),
-        Err(_) => Err(Memory),
-    }
+    waiting.push(held)?;
+    Ok(())
 }
 
 // Looks at the fields of a struct: whether one is an `RRef`, and which structs they hold.
@@ -30,9 +27,10 @@ fn scan(
     seen: &mut Vec<bool>,
     waiting: &mut Vec<u32>,
     number: u32,
-) -> Result<bool, Memory>
+) -> Result<bool, AllocError>
     requires { Searching part.now.lines.now seen.old.items (waiting.old.items ++ number ∷ []) }
-    ensures { IfOk result (IsScan part.now.lines.now seen.old.items seen.new.items waiting.old.items waiting.new.items number) }
+    ensures { IfOk result (IsScan part.now.lines.now
+        seen.old.items seen.new.items waiting.old.items waiting.new.items number) }
 {
     let mut at = start_of(part, number) + 1;
     'fields: while let Some(ty) = field_at(part.lines, at) {
@@ -49,7 +47,12 @@ fn scan(
 
 /// Whether a struct holds an `RRef`, in a field of its own or of a struct that it reaches by fields outside `RRef`. What was seen
 /// without one is marked, and no search looks at it again.
-pub fn search(alloc: Global, part: &Part, seen: &mut Vec<bool>, first: u32) -> Result<bool, Memory>
+pub fn search(
+    alloc: Global,
+    part: &Part,
+    seen: &mut Vec<bool>,
+    first: u32,
+) -> Result<bool, AllocError>
     requires searching { Searching part.now.lines.now seen.old.items [] }
     requires below { first < length (struct_names part.now.lines.now) }
     ensures { IfOk result (IsSearch part.now.lines.now seen.new.items first) }

@@ -2,18 +2,18 @@ ghost use Rattle.std.specs.Prelude.{◌<◌, ◌^◌, IfOk, length};
 ghost use Rattle.rl_defs.specs.Interfaces.{Rises};
 
 use crate::check::{cells, check_types, in_rref};
+use rl_defs::LoadFault;
 use rl_defs::bundle::Numbered;
 use rl_defs::idl::{Base, Idl, IdlLine, Param, ResultText, TypeText, Wrap};
 use rl_defs::list::List;
 use rl_defs::name::Name;
 use rl_defs::tables::Width;
-use rl_defs::{LoadFault, Memory};
-use std::alloc::Global;
+use std::alloc::{AllocError, Global};
 use std::process::Abort;
 use std::test::Fail;
 
 // The part of these lines, numbered from 2.
-fn part_of(alloc: Global, forms: Vec<IdlLine>) -> Result<Idl, Memory>
+fn part_of(alloc: Global, forms: Vec<IdlLine>) -> Result<Idl, AllocError>
     ensures few { IfOk result (λ idl. length idl.lines < 2 ^ 32) }
     ensures rises { IfOk result (λ idl. Rises idl.lines) }
 {
@@ -21,7 +21,7 @@ fn part_of(alloc: Global, forms: Vec<IdlLine>) -> Result<Idl, Memory>
     let mut number = 2u32;
     'forms: for form in forms {
         if number == u32::MAX {
-            return Err(Memory);
+            return Err(AllocError);
         }
         lines.push(Numbered { line: number, form })?;
         number += 1;

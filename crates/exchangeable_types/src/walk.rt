@@ -13,10 +13,9 @@ ghost use Rattle.exchangeable_types.specs.Steps.{IsAdded, IsStop};
 use crate::cells::{Cells, MOST, put, put_struct};
 use crate::part::Part;
 use crate::types::{field_at, kind_held, struct_held, times};
-use rl_defs::Memory;
 use rl_defs::idl::TypeText;
 use rl_defs::list::List;
-use std::alloc::Global;
+use std::alloc::{AllocError, Global};
 
 /// How far the walk has come with a struct.
 #[derive(Debug, Drop)]
@@ -58,7 +57,7 @@ pub enum Added {
 }
 
 // Puts the cells of a field behind the cells before it.
-fn add(part: &Part, states: &[State], cells: Cells, ty: &TypeText) -> Result<Added, Memory>
+fn add(part: &Part, states: &[State], cells: Cells, ty: &TypeText) -> Result<Added, AllocError>
     requires known { KnowsCells part.now.lines.now states.now }
     requires declared { (t : ℕ) → struct_held part.now.lines.now ty.now ≡ Some t → t < length states.now }
     ensures { IfOk result (IsAdded part.now.lines.now states.now cells ty.now) }
@@ -77,7 +76,7 @@ fn add(part: &Part, states: &[State], cells: Cells, ty: &TypeText) -> Result<Add
 }
 
 // Goes on with a visit, to the end of its fields or to a struct that hasn't ended.
-fn advance(part: &Part, states: &[State], visit: Visit) -> Result<Stop, Memory>
+fn advance(part: &Part, states: &[State], visit: Visit) -> Result<Stop, AllocError>
     requires count { length states.now ≡ length (struct_names part.now.lines.now) }
     requires known { KnowsCells part.now.lines.now states.now }
     requires visit { IsVisit part.now.lines.now visit }
@@ -113,20 +112,19 @@ fn set(states: &mut Vec<State>, number: u32, state: State)
     states[number as usize] = state;
 }
 
-fn push(stack: &mut Vec<Visit>, visit: Visit) -> Result<(), Memory>
+fn push(stack: &mut Vec<Visit>, visit: Visit) -> Result<(), AllocError>
     ensures { OnOk result (stack.new.items ≡ stack.old.items ++ visit ∷ []) }
 {
-    match stack.push(visit) {
-        Ok(()) => Ok(()),
-        Err(_) => Err(Memory),
-    }
+    stack.push(visit)?;
+    Ok(())
 }
 
 // Begins the visit of a new struct. It stands on top of the stack, but isn't put there.
 fn begin(alloc: Global, part: &Part, states: &mut Vec<State>, stack: &[Visit], number: u32) -> Visit
     requires walking { Walking part.now.lines.now states.old.items stack.now }
     requires new { slice_get states.old.items number ≡ Some State.New }
-    requires below { (i : ℕ) (v : VisitValue) → slice_get stack.now i ≡ Some v → Reaches part.now.lines.now v.number number }
+    requires below { (i : ℕ) (v : VisitValue) → slice_get stack.now i ≡ Some v
+        → Reaches part.now.lines.now v.number number }
     ensures { Entered part.now.lines.now states.old.items states.new.items stack.now (stack.now ++ result ∷ []) number }
 {
     let visit = Visit {
@@ -161,10 +159,11 @@ fn wait(
     stack: &mut Vec<Visit>,
     visit: Visit,
     held: u32,
-) -> Result<(), Memory>
+) -> Result<(), AllocError>
     requires walking { Walking part.now.lines.now states.old.items (stack.old.items ++ visit ∷ []) }
     requires waits { WaitsFor part.now.lines.now states.old.items visit.number held }
-    ensures { OnOk result (Stepped part.now.lines.now states.old.items states.new.items stack.old.items stack.new.items) }
+    ensures { OnOk result (Stepped part.now.lines.now
+        states.old.items states.new.items stack.old.items stack.new.items) }
 {
     if is_new(&states[held as usize]) {
         push(stack, visit)?;
@@ -182,9 +181,10 @@ fn step(
     states: &mut Vec<State>,
     stack: &mut Vec<Visit>,
     visit: Visit,
-) -> Result<(), Memory>
+) -> Result<(), AllocError>
     requires { Walking part.now.lines.now states.old.items (stack.old.items ++ visit ∷ []) }
-    ensures { OnOk result (Stepped part.now.lines.now states.old.items states.new.items stack.old.items stack.new.items) }
+    ensures { OnOk result (Stepped part.now.lines.now
+        states.old.items states.new.items stack.old.items stack.new.items) }
 {
     match advance(part, states.as_slice(), visit)? {
         Stop::Whole(number, cells) => {
@@ -201,7 +201,7 @@ fn visit_from(
     part: &Part,
     states: &mut Vec<State>,
     number: u32,
-) -> Result<(), Memory>
+) -> Result<(), AllocError>
     requires walking { Walking part.now.lines.now states.old.items [] }
     requires new { slice_get states.old.items number ≡ Some State.New }
     ensures { OnOk result (Visited part.now.lines.now states.old.items states.new.items number) }
@@ -215,18 +215,13 @@ fn visit_from(
     Ok(())
 }
 
-fn all_new(alloc: Global, count: usize) -> Result<Vec<State>, Memory>
+fn all_new(alloc: Global, count: usize) -> Result<Vec<State>, AllocError>
     ensures count { IfOk result (λ states. length states.items ≡ count) }
     ensures new { IfOk result (λ states. (s : ℕ) (x : StateValue) → slice_get states.items s ≡ Some x → x ≡ State.New) }
 {
-    let Ok(mut states) = Vec::with_capacity(alloc, count) else {
-        return Err(Memory);
-    };
+    let mut states = Vec::with_capacity(alloc, count)?;
     'states: for _ in 0..count {
-        match states.push(State::New) {
-            Ok(()) => {}
-            Err(_) => return Err(Memory),
-        }
+        states.push(State::New)?;
     }
     Ok(states)
 }
@@ -237,7 +232,7 @@ fn visit_next(
     part: &Part,
     states: &mut Vec<State>,
     number: u32,
-) -> Result<(), Memory>
+) -> Result<(), AllocError>
     requires walked { WalkedTo part.now.lines.now states.old.items number }
     requires below { number < length (struct_names part.now.lines.now) }
     ensures { OnOk result (WalkedTo part.now.lines.now states.new.items (number + 1)) }
@@ -250,7 +245,7 @@ fn visit_next(
 }
 
 /// The structs of a part, each with its cells or found to reach one that holds itself.
-pub fn walk(alloc: Global, part: &Part) -> Result<Vec<State>, Memory>
+pub fn walk(alloc: Global, part: &Part) -> Result<Vec<State>, AllocError>
     ensures { IfOk result (λ states. Walked part.now.lines.now states.items) }
 {
     let mut states = all_new(alloc, part.starts.len())?;

@@ -6,8 +6,8 @@ use Rattle.rl_defs.specs.IdlForms.{spell_line, IsIdlLine}
 use Rattle.rl_defs.specs.IdlParts as parts
 use Rattle.rl_defs.specs.IdlParts.{interface_part}
 use Rattle.rl_text.specs.Reading.{name_at, key_at, mark_at}
-use Rattle.rl_text.proofs.FormLaws.{IsReading, one_form, skipped_no_form}
-use Rattle.rl_text.proofs.PartRules.{AreForms}
+use Rattle.rl_text.specs.Forms.{IsReading}
+use Rattle.rl_text.proofs.PartRules.{AreForms, forms_read}
 use Rattle.idl_syntax.specs.declared.part.Block.{Block}
 use Rattle.idl_syntax.specs.declared.part.Block.TheVariants as b
 use Rattle.idl_syntax.specs.Parts.{block_of}
@@ -35,10 +35,4 @@ reading = record {
 }
 
 pub interface_forms : AreForms interface_part
-interface_forms = record { one = one_form IsIdlLine read reading; skipped = skipped_no_form IsIdlLine read reading }
-
-pub not_outside : (block : Block) → (block ≡ b.Outside → ⊥) → block_of block ≡ parts.Outside → ⊥
-not_outside b.Outside h e = h refl
-not_outside b.InStruct h e = cc
-not_outside b.InTrait h e = cc
-not_outside b.BeforeMethod h e = cc
+interface_forms = forms_read interface_part read reading

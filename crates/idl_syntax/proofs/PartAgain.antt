@@ -4,9 +4,9 @@ use Rattle.rl_defs.specs.declared.bundle.Numbered.{Numbered}
 use Rattle.rl_defs.specs.declared.idl.IdlLine.{IdlLine}
 use Rattle.rl_defs.specs.Lines.{lines_of}
 use Rattle.rl_defs.specs.Tokens.{Token}
-use Rattle.rl_defs.specs.Canonical.{render_line}
+use Rattle.rl_text.specs.Canonical.{render_line}
 use Rattle.rl_defs.specs.IdlForms.{spell_line, IsIdlLine}
-use Rattle.rl_defs.specs.IdlCanonical.{canonical, depth_of, write_part}
+use Rattle.idl_syntax.specs.IdlCanonical.{canonical, depth_of, write_part}
 use Rattle.rl_defs.specs.Parts.{StandFor}
 use Rattle.rl_defs.specs.IdlParts.{interface_part}
 use Rattle.rl_text.specs.Writable.{renumbered}

@@ -1,9 +1,9 @@
 -- A line that is written is read again.
 use Rattle.std.proofs.Common.{◌≡◌, ℕ, ◌≤◌, List, length, ap, arith}
 use Rattle.rl_defs.specs.declared.idl.IdlLine.{IdlLine}
-use Rattle.rl_defs.specs.Canonical.{render}
+use Rattle.rl_text.specs.Canonical.{render}
 use Rattle.rl_defs.specs.IdlForms.{spell_line}
-use Rattle.rl_defs.specs.IdlCanonical.{canonical, write_line}
+use Rattle.idl_syntax.specs.IdlCanonical.{canonical, write_line}
 use Rattle.idl_syntax.specs.Writable.{IsReadAgain}
 use Rattle.rl_text.proofs.RenderSpells.{render_has}
 

@@ -5,9 +5,9 @@ use Rattle.std.proofs.lemmas.List.{at_drop_more, drop_all}
 use Rattle.rl_defs.specs.declared.bundle.Numbered.{Numbered}
 use Rattle.rl_defs.specs.declared.idl.IdlLine.{IdlLine}
 use Rattle.rl_defs.specs.Words.{is_name}
-use Rattle.rl_defs.specs.Canonical.{render_line}
+use Rattle.rl_text.specs.Canonical.{render_line}
 use Rattle.rl_defs.specs.IdlForms.{spell_line}
-use Rattle.rl_defs.specs.IdlCanonical.{canonical, depth_of, write_part}
+use Rattle.idl_syntax.specs.IdlCanonical.{canonical, depth_of, write_part}
 
 pub lines_step : (xs : List (Numbered IdlLine)) (i : ℕ) (x : Numbered IdlLine) (before out new : List ℕ) → i < length xs → x ≡ get_or xs i x → before ≡ out ++ write_part (drop i xs) → new ≡ out ++ render_line (depth_of x.form) (spell_line canonical x.form) → before ≡ new ++ write_part (drop (i + 1) xs)
 unfolding write_part

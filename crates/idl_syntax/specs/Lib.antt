@@ -4,3 +4,4 @@ pub mod Lines
 pub mod Parts
 pub mod Writable
 pub mod Laws
+pub mod IdlCanonical

@@ -6,7 +6,7 @@ use Rattle.rl_defs.specs.Lines.{lines_of}
 use Rattle.rl_defs.specs.Parts.{StandFor}
 use Rattle.rl_defs.specs.IdlParts.{interface_part}
 use Rattle.rl_defs.specs.IdlForms.{spell_line, IsForm, IsIdlLine}
-use Rattle.rl_defs.specs.IdlCanonical.{canonical, depth_of}
+use Rattle.idl_syntax.specs.IdlCanonical.{canonical, depth_of}
 use Rattle.rl_text.specs.Writable.{AreWritable, written_inside, renumbered}
 
 -- A text that was written for a line is that line, where its types are types, its names are names, and it is no longer than a line

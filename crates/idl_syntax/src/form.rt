@@ -26,10 +26,8 @@ fn several(alloc: Global, left: &mut Cursor<'_>) -> Result<List<TypeText>, Stop>
     if all.is_empty() {
         return Err(Stop::NoForm);
     }
-    match all.insert(0, first) {
-        Ok(()) => Ok(List::from_vec(all)),
-        Err(_) => Err(Stop::Memory),
-    }
+    all.insert(0, first)?;
+    Ok(List::from_vec(all))
 }
 
 // Nothing, or two types or more, behind a `(`.
@@ -48,10 +46,8 @@ fn one(alloc: Global, left: &mut Cursor<'_>) -> Result<List<TypeText>, Stop>
 {
     let ty = whole_type(alloc, left)?;
     let mut all = List::new(alloc);
-    match all.push(ty) {
-        Ok(()) => Ok(all),
-        Err(_) => Err(Stop::Memory),
-    }
+    all.push(ty)?;
+    Ok(all)
 }
 
 // `()`, a type, or two types or more in parentheses.

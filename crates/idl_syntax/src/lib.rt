@@ -4,7 +4,11 @@
 mod form;
 pub mod laws;
 mod list;
-pub mod part;
-pub mod read;
+mod part;
+mod read;
 mod types;
-pub mod write;
+mod write;
+
+pub use part::read_idl;
+pub use read::read_idl_line;
+pub use write::{write_idl, write_idl_line};

@@ -85,13 +85,11 @@ fn wrapped(wrap: Wrap, inner: TypeText) -> Result<TypeText, Stop>
 {
     let TypeText { wraps, base } = inner;
     let mut all = wraps.into_vec();
-    match all.insert(0, wrap) {
-        Ok(()) => Ok(TypeText {
-            wraps: List::from_vec(all),
-            base,
-        }),
-        Err(_) => Err(Stop::Memory),
-    }
+    all.insert(0, wrap)?;
+    Ok(TypeText {
+        wraps: List::from_vec(all),
+        base,
+    })
 }
 
 // A type behind `[`.

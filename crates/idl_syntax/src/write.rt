@@ -1,22 +1,21 @@
 //! Writing the interface part.
 ghost use Rattle.std.specs.Prelude.{◌≡◌, ℕ, ◌+◌, ◌≤◌, ◌<◌, List, [], ◌∷◌, ◌++◌, map, length, codes, IfOk, OnOk};
-ghost use Rattle.rl_defs.specs.Canonical.{render};
+ghost use Rattle.rl_text.specs.Canonical.{render};
 ghost use Rattle.rl_defs.specs.IdlForms.{spell_width, spell_base, spell_round, spell_type, spell_param, spell_more, spell_out, spell_result, spell_line};
-ghost use Rattle.rl_defs.specs.IdlCanonical.{canonical, write_line, write_part, depth_of};
+ghost use Rattle.idl_syntax.specs.IdlCanonical.{canonical, write_line, write_part, depth_of};
 ghost use Rattle.rl_defs.specs.Tokens as t;
 ghost use Rattle.idl_syntax.specs.Writable.{IsReadAgain, IsPartReadAgain};
 ghost use Rattle.rl_defs.specs.declared.lexeme.Key.TheVariants as k;
 ghost use Rattle.rl_defs.specs.declared.lexeme.Mark.TheVariants as m;
 ghost use Rattle.rl_defs.specs.declared.idl.IdlLine.TheVariants as form;
 
-use rl_defs::Memory;
 use rl_defs::bundle::Numbered;
 use rl_defs::idl::{Base, Idl, IdlLine, Param, ResultText, TypeText, Wrap};
 use rl_defs::lexeme::{Key, Mark};
 use rl_defs::name::Name;
 use rl_defs::tables::Width;
 use rl_text::render::Spelling;
-use std::alloc::Global;
+use std::alloc::{AllocError, Global};
 
 fn width(width: Width) -> Key
     ensures { result ≡ spell_width width }
@@ -30,7 +29,7 @@ fn width(width: Width) -> Key
     }
 }
 
-fn put_base(out: &mut Spelling<'_>, base: &Base) -> Result<(), Memory>
+fn put_base(out: &mut Spelling<'_>, base: &Base) -> Result<(), AllocError>
     ensures { OnOk result (out.new ≡ out.old ++ spell_base base.now) }
 {
     match base {
@@ -65,8 +64,14 @@ fn put_base(out: &mut Spelling<'_>, base: &Base) -> Result<(), Memory>
 
 // A type in angle brackets, behind the word that wraps it.
 #[cycle(round)]
-fn put_angled(out: &mut Spelling<'_>, key: Key, wraps: &[Wrap], base: &Base) -> Result<(), Memory>
-    ensures { OnOk result (out.new ≡ out.old ++ (t.Reserved key ∷ t.Sign m.Less ∷ spell_round wraps.now base.now ++ (t.Sign m.Greater ∷ []))) }
+fn put_angled(
+    out: &mut Spelling<'_>,
+    key: Key,
+    wraps: &[Wrap],
+    base: &Base,
+) -> Result<(), AllocError>
+    ensures { OnOk result (out.new ≡ out.old
+        ++ (t.Reserved key ∷ t.Sign m.Less ∷ spell_round wraps.now base.now ++ (t.Sign m.Greater ∷ []))) }
 {
     out.key(key)?;
     out.mark(Mark::Less)?;
@@ -76,8 +81,15 @@ fn put_angled(out: &mut Spelling<'_>, key: Key, wraps: &[Wrap], base: &Base) -> 
 
 // A type in brackets, with its count.
 #[cycle(round)]
-fn put_array(out: &mut Spelling<'_>, count: u16, wraps: &[Wrap], base: &Base) -> Result<(), Memory>
-    ensures { OnOk result (out.new ≡ out.old ++ (t.Sign m.OpenBracket ∷ spell_round wraps.now base.now ++ (t.Sign m.Semicolon ∷ t.Number count ∷ t.Sign m.CloseBracket ∷ []))) }
+fn put_array(
+    out: &mut Spelling<'_>,
+    count: u16,
+    wraps: &[Wrap],
+    base: &Base,
+) -> Result<(), AllocError>
+    ensures { OnOk result (out.new ≡ out.old
+        ++ (t.Sign m.OpenBracket ∷ spell_round wraps.now base.now ++ (t.Sign m.Semicolon ∷ t.Number count
+        ∷ t.Sign m.CloseBracket ∷ []))) }
 {
     out.mark(Mark::OpenBracket)?;
     put_round(out, wraps, base)?;
@@ -94,7 +106,7 @@ fn put_behind(
     key: Key,
     wraps: &[Wrap],
     base: &Base,
-) -> Result<(), Memory>
+) -> Result<(), AllocError>
     ensures { OnOk result (out.new ≡ out.old ++ (t.Sign mark ∷ t.Reserved key ∷ spell_round wraps.now base.now)) }
 {
     out.mark(mark)?;
@@ -103,7 +115,7 @@ fn put_behind(
 }
 
 #[cycle(round)]
-fn put_round(out: &mut Spelling<'_>, wraps: &[Wrap], base: &Base) -> Result<(), Memory>
+fn put_round(out: &mut Spelling<'_>, wraps: &[Wrap], base: &Base) -> Result<(), AllocError>
     ensures { OnOk result (out.new ≡ out.old ++ spell_round wraps.now base.now) }
 {
     match wraps {
@@ -123,13 +135,13 @@ fn put_round(out: &mut Spelling<'_>, wraps: &[Wrap], base: &Base) -> Result<(), 
     }
 }
 
-fn put_type(out: &mut Spelling<'_>, ty: &TypeText) -> Result<(), Memory>
+fn put_type(out: &mut Spelling<'_>, ty: &TypeText) -> Result<(), AllocError>
     ensures { OnOk result (out.new ≡ out.old ++ spell_type ty.now) }
 {
     put_round(out, ty.wraps.as_slice(), &ty.base)
 }
 
-fn put_param(out: &mut Spelling<'_>, param: &Param) -> Result<(), Memory>
+fn put_param(out: &mut Spelling<'_>, param: &Param) -> Result<(), AllocError>
     ensures { OnOk result (out.new ≡ out.old ++ spell_param param.now) }
 {
     out.name(param.name)?;
@@ -138,7 +150,7 @@ fn put_param(out: &mut Spelling<'_>, param: &Param) -> Result<(), Memory>
 }
 
 // Parameters, a comma before each.
-fn put_params(out: &mut Spelling<'_>, params: &[Param]) -> Result<(), Memory>
+fn put_params(out: &mut Spelling<'_>, params: &[Param]) -> Result<(), AllocError>
     ensures { OnOk result (out.new ≡ out.old ++ spell_more spell_param params.now) }
 {
     'params: for param in params {
@@ -149,7 +161,7 @@ fn put_params(out: &mut Spelling<'_>, params: &[Param]) -> Result<(), Memory>
 }
 
 // Types, a comma before each.
-fn put_types(out: &mut Spelling<'_>, types: &[TypeText]) -> Result<(), Memory>
+fn put_types(out: &mut Spelling<'_>, types: &[TypeText]) -> Result<(), AllocError>
     ensures { OnOk result (out.new ≡ out.old ++ spell_more spell_type types.now) }
 {
     'types: for ty in types {
@@ -160,8 +172,14 @@ fn put_types(out: &mut Spelling<'_>, types: &[TypeText]) -> Result<(), Memory>
 }
 
 // Types in parentheses, a comma between two of them.
-fn put_several(out: &mut Spelling<'_>, first: &TypeText, more: &[TypeText]) -> Result<(), Memory>
-    ensures { OnOk result (out.new ≡ out.old ++ (t.Sign m.OpenParen ∷ spell_type first.now ++ (spell_more spell_type more.now ++ (t.Sign m.CloseParen ∷ [])))) }
+fn put_several(
+    out: &mut Spelling<'_>,
+    first: &TypeText,
+    more: &[TypeText],
+) -> Result<(), AllocError>
+    ensures { OnOk result (out.new ≡ out.old
+        ++ (t.Sign m.OpenParen ∷ spell_type first.now ++ (spell_more spell_type more.now
+        ++ (t.Sign m.CloseParen ∷ [])))) }
 {
     out.mark(Mark::OpenParen)?;
     put_type(out, first)?;
@@ -169,14 +187,14 @@ fn put_several(out: &mut Spelling<'_>, first: &TypeText, more: &[TypeText]) -> R
     out.mark(Mark::CloseParen)
 }
 
-fn put_nothing(out: &mut Spelling<'_>) -> Result<(), Memory>
+fn put_nothing(out: &mut Spelling<'_>) -> Result<(), AllocError>
     ensures { OnOk result (out.new ≡ out.old ++ (t.Sign m.OpenParen ∷ t.Sign m.CloseParen ∷ [])) }
 {
     out.mark(Mark::OpenParen)?;
     out.mark(Mark::CloseParen)
 }
 
-fn put_out(out: &mut Spelling<'_>, types: &[TypeText]) -> Result<(), Memory>
+fn put_out(out: &mut Spelling<'_>, types: &[TypeText]) -> Result<(), AllocError>
     ensures { OnOk result (out.new ≡ out.old ++ spell_out types.now) }
 {
     match types {
@@ -190,7 +208,7 @@ fn put_out(out: &mut Spelling<'_>, types: &[TypeText]) -> Result<(), Memory>
     }
 }
 
-fn put_result(out: &mut Spelling<'_>, outcome: &ResultText) -> Result<(), Memory>
+fn put_result(out: &mut Spelling<'_>, outcome: &ResultText) -> Result<(), AllocError>
     ensures { OnOk result (out.new ≡ out.old ++ spell_result outcome.now) }
 {
     match outcome {
@@ -210,8 +228,9 @@ fn put_result(out: &mut Spelling<'_>, outcome: &ResultText) -> Result<(), Memory
 }
 
 // The head of a struct or a trait.
-fn put_head(out: &mut Spelling<'_>, key: Key, name: Name) -> Result<(), Memory>
-    ensures { OnOk result (out.new ≡ out.old ++ (t.Reserved k.Pub ∷ t.Reserved key ∷ t.Name name ∷ t.Sign m.OpenBrace ∷ [])) }
+fn put_head(out: &mut Spelling<'_>, key: Key, name: Name) -> Result<(), AllocError>
+    ensures { OnOk result (out.new ≡ out.old
+        ++ (t.Reserved k.Pub ∷ t.Reserved key ∷ t.Name name ∷ t.Sign m.OpenBrace ∷ [])) }
 {
     out.key(Key::Pub)?;
     out.key(key)?;
@@ -220,7 +239,7 @@ fn put_head(out: &mut Spelling<'_>, key: Key, name: Name) -> Result<(), Memory>
 }
 
 // A field.
-fn put_field(out: &mut Spelling<'_>, name: Name, ty: &TypeText) -> Result<(), Memory>
+fn put_field(out: &mut Spelling<'_>, name: Name, ty: &TypeText) -> Result<(), AllocError>
     ensures { OnOk result (out.new ≡ out.old ++ spell_line canonical (form.Field name ty.now)) }
 {
     out.key(Key::Pub)?;
@@ -231,8 +250,9 @@ fn put_field(out: &mut Spelling<'_>, name: Name, ty: &TypeText) -> Result<(), Me
 }
 
 // A method's name and receiver.
-fn put_receiver(out: &mut Spelling<'_>, name: Name) -> Result<(), Memory>
-    ensures { OnOk result (out.new ≡ out.old ++ (t.Reserved k.Fn ∷ t.Name name ∷ t.Sign m.OpenParen ∷ t.Sign m.Ampersand ∷ t.Reserved k.SelfWord ∷ [])) }
+fn put_receiver(out: &mut Spelling<'_>, name: Name) -> Result<(), AllocError>
+    ensures { OnOk result (out.new ≡ out.old
+        ++ (t.Reserved k.Fn ∷ t.Name name ∷ t.Sign m.OpenParen ∷ t.Sign m.Ampersand ∷ t.Reserved k.SelfWord ∷ [])) }
 {
     out.key(Key::Fn)?;
     out.name(name)?;
@@ -247,7 +267,7 @@ fn put_method(
     name: Name,
     params: &[Param],
     outcome: &ResultText,
-) -> Result<(), Memory>
+) -> Result<(), AllocError>
     ensures { OnOk result (out.new ≡ out.old ++ spell_line canonical (form.Method name params.now outcome.now)) }
 {
     put_receiver(out, name)?;
@@ -257,13 +277,13 @@ fn put_method(
     out.mark(Mark::Semicolon)
 }
 
-fn put_idempotent(out: &mut Spelling<'_>) -> Result<(), Memory>
+fn put_idempotent(out: &mut Spelling<'_>) -> Result<(), AllocError>
     ensures { OnOk result (out.new ≡ out.old ++ t.Name (codes "idempotent") ∷ []) }
 {
     out.word(b"idempotent")
 }
 
-fn put_attribute(out: &mut Spelling<'_>) -> Result<(), Memory>
+fn put_attribute(out: &mut Spelling<'_>) -> Result<(), AllocError>
     ensures { OnOk result (out.new ≡ out.old ++ spell_line canonical form.Idempotent) }
 {
     out.mark(Mark::Hash)?;
@@ -272,7 +292,7 @@ fn put_attribute(out: &mut Spelling<'_>) -> Result<(), Memory>
     out.mark(Mark::CloseBracket)
 }
 
-fn put_line(out: &mut Spelling<'_>, line: &IdlLine) -> Result<(), Memory>
+fn put_line(out: &mut Spelling<'_>, line: &IdlLine) -> Result<(), AllocError>
     ensures { OnOk result (out.new ≡ out.old ++ spell_line canonical line.now) }
 {
     match line {
@@ -300,7 +320,7 @@ fn depth_of(line: &IdlLine) -> u32
 }
 
 /// The canonical text of a line by itself, without blanks before it and without a line feed.
-pub fn write_idl_line(alloc: Global, line: &IdlLine) -> Result<Vec<u8>, Memory>
+pub fn write_idl_line(alloc: Global, line: &IdlLine) -> Result<Vec<u8>, AllocError>
     ensures canonical { IfOk result (λ v. v.items ≡ write_line line.now) }
     ensures again { IfOk result (λ v. IsReadAgain line.now v.items) }
 {
@@ -312,7 +332,7 @@ pub fn write_idl_line(alloc: Global, line: &IdlLine) -> Result<Vec<u8>, Memory>
 }
 
 /// The canonical text of an interface part: each line with four blanks for each block that is open round it, and a line feed.
-pub fn write_idl(alloc: Global, idl: &Idl) -> Result<Vec<u8>, Memory>
+pub fn write_idl(alloc: Global, idl: &Idl) -> Result<Vec<u8>, AllocError>
     ensures canonical { IfOk result (λ v. v.items ≡ write_part idl.now.lines) }
     ensures again { IfOk result (λ v. IsPartReadAgain idl.now.lines v.items) }
 {
@@ -321,7 +341,11 @@ pub fn write_idl(alloc: Global, idl: &Idl) -> Result<Vec<u8>, Memory>
     Ok(bytes)
 }
 
-fn put_lines(alloc: Global, bytes: &mut Vec<u8>, lines: &[Numbered<IdlLine>]) -> Result<(), Memory>
+fn put_lines(
+    alloc: Global,
+    bytes: &mut Vec<u8>,
+    lines: &[Numbered<IdlLine>],
+) -> Result<(), AllocError>
     ensures { OnOk result (bytes.new.items ≡ bytes.old.items ++ write_part lines.now) }
 {
     let mut out = Spelling::new(alloc);

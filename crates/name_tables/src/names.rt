@@ -5,9 +5,8 @@ ghost use Rattle.indexmap.specs.IndexMap.{get, Updates};
 ghost use Rattle.rl_defs.specs.Interfaces.{place_of};
 
 use indexmap::IndexMap;
-use rl_defs::Memory;
 use rl_defs::name::Name;
-use std::alloc::Global;
+use std::alloc::{AllocError, Global};
 use std::marker::Model;
 
 /// Names in order, with the place where each stands first. A name may stand there more than once. Contracts see the list of the names.
@@ -65,8 +64,8 @@ impl Names {
         }
     }
 
-    /// Adds a name, and gives the place where it stood before, from 0, if it did. After `Memory` the names are as before.
-    pub fn add(&mut self, name: &Name) -> Result<Option<u32>, Memory>
+    /// Adds a name, and gives the place where it stood before, from 0, if it did. After `AllocError` the names are as before.
+    pub fn add(&mut self, name: &Name) -> Result<Option<u32>, AllocError>
         requires room { length self.old < 2 ^ 32 - 1 }
         ensures added { OnOk result (self.new ≡ self.old ++ name.now ∷ []) }
         ensures before { IfOk result (λ place. place ≡ place_of name.now self.old) }
@@ -82,7 +81,7 @@ impl Names {
             }
             Err(_) => {
                 self.names.pop();
-                Err(Memory)
+                Err(AllocError)
             }
         }
     }
@@ -102,13 +101,13 @@ impl Names {
     }
 }
 
-fn push(names: &mut Vec<Name>, name: &Name) -> Result<(), Memory>
+fn push(names: &mut Vec<Name>, name: &Name) -> Result<(), AllocError>
     ensures added { OnOk result (names.new.items ≡ names.old.items ++ name.now ∷ []) }
     ensures full { OnErr result (names.new.items ≡ names.old.items) }
 {
     match names.push(*name) {
         Ok(()) => Ok(()),
-        Err(_) => Err(Memory),
+        Err(_) => Err(AllocError),
     }
 }
 

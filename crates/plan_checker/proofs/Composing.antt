@@ -1,5 +1,5 @@
 -- The answers of the parts, and what they say of the whole bundle.
-use Rattle.std.proofs.Common.{inl, inr, List, refl, lt-ltb}
+use Rattle.std.proofs.Common.{◌≡◌, inl, inr, List, refl, lt-ltb, subst}
 use Rattle.std.specs.Prelude.{Result, Ok, Err}
 use Rattle.std.proofs.lemmas.Bool.{cases_lt}
 use Rattle.rl_defs.specs.declared.LoadFault.{LoadFault}
@@ -8,12 +8,14 @@ use Rattle.rl_defs.specs.declared.bundle.Bundle.{Bundle}
 use Rattle.rl_defs.specs.declared.bundle.PlanLine.TheVariants as plan
 use Rattle.rl_defs.specs.DomainValue.{Domain}
 use Rattle.rl_defs.specs.BundleNames.{ClientLines}
-use Rattle.rl_defs.specs.Refusals.{Nowhere, Answers}
+use Rattle.rl_defs.specs.Refusals.{Nowhere, Answers, IsFirst}
 use Rattle.plan_checker.specs.LineScan.{FailsIn}
 use Rattle.plan_checker.specs.Limits.{FailsDomains, FailsClientLine}
 use Rattle.plan_checker.specs.PlanTests.{FailsPlanLine}
 use Rattle.plan_checker.specs.Parts.{FailsParts, PartsRise}
-use Rattle.plan_checker.specs.Rows.{AreWithin}
+use Rattle.plan_checker.specs.Facts.{HasLoadNames}
+use Rattle.plan_checker.specs.Lookups.{PlanLines, plan_bundle}
+use Rattle.plan_checker.specs.Rows.{AreWithin, AnswersParts}
 use Rattle.plan_checker.proofs.Members.{or_second}
 
 module _ (domains : List Domain) (b : Bundle) (clients : ClientLines) (rises : PartsRise domains b.plan.lines clients) where
@@ -65,3 +67,7 @@ within domains b clients none = record {
     | inr kept ↦ kept
   ];
 }
+
+pub parts_refuse : (domains : List Domain) (lines : PlanLines) (clients : ClientLines) (b : Bundle) (fault : LoadFault) → b ≡ plan_bundle domains lines → HasLoadNames lines → Answers {X = Unit {0}} (FailsParts domains b clients) (λ _. Unit {0}) (Err fault) → AnswersParts domains lines clients (Err fault)
+parts_refuse domains lines clients b Memory same names h = tt
+parts_refuse domains lines clients b (Refused at) same names h = (names, subst (λ (x : Bundle). IsFirst (FailsParts domains x clients) at.line at.rule) same h)

@@ -11,7 +11,7 @@ use Rattle.rl_defs.specs.declared.bundle.PlanLine.TheVariants as plan
 use Rattle.rl_defs.specs.Words.{is_word, starts_word, is_word_byte, is_name, is_reserved, same_bytes}
 use Rattle.rl_defs.specs.Interfaces.{place_of}
 use Rattle.rl_defs.specs.BundleNames.{given_by, names_of, bind_given}
-use Rattle.rl_defs.specs.Standing.{bound_in}
+use Rattle.rl_defs.specs.LoadOf.{bound_in}
 use Rattle.plan_checker.specs.Lookups.{PlanLines, bound_at}
 
 -- no byte is a dot

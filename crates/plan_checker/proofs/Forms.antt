@@ -10,9 +10,9 @@ use Rattle.rl_defs.specs.declared.bundle.ClientLine.TheVariants as client
 use Rattle.rl_defs.specs.declared.code.DomainLine.{DomainLine}
 use Rattle.rl_defs.specs.declared.code.DomainLine.TheVariants as line
 use Rattle.rl_defs.specs.CodeNames.{Declared, import_of_form}
-use Rattle.rl_defs.specs.BundleNames.{load_given, domains_loaded, serial_given, client_given, client_names}
-use Rattle.rl_defs.specs.Standing.{shadow_given, bound_in, loads_in, shadows_in, order_in, fuel_in, device_in, blocks_in}
-use Rattle.plan_checker.specs.Lookups.{shadowed, binding}
+use Rattle.rl_defs.specs.BundleNames.{load_given, domains_loaded, serial_given, client_given, client_names, shadow_given, shadowed}
+use Rattle.rl_defs.specs.LoadOf.{bound_in, loads_in, shadows_in, order_in, fuel_in, device_in, blocks_in}
+use Rattle.plan_checker.specs.Lookups.{binding}
 use Rattle.plan_checker.specs.Rows.{order_with}
 
 pub record NoLoad (form : PlanLine) : Type 0 where

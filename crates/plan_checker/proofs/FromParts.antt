@@ -1,5 +1,10 @@
 -- What fails in a part fails in the whole bundle.
-use Rattle.std.proofs.Common.{◌≡◌, ℕ, inl, inr, Bool, true, false, not, cond, nat_eq, nat_le, nat_lt, List, ◌∷◌, ◌++◌, take, Option, Some, None, refl, ap, ◌∙◌, leb-true, ltb-true}
+use Rattle.std.proofs.lemmas.Bool.Decides.{Decides-eqb}
+use Rattle.rl_defs.proofs.Places.{get_within}
+use Rattle.std.specs.Option.{option_and_then}
+use Rattle.std.proofs.lemmas.Slice.Eq.{slice_eq-Decides}
+use Rattle.rl_defs.specs.NameRules.{GivenTwice}
+use Rattle.std.proofs.Common.{◌≡◌, ℕ, inl, inr, Bool, true, false, not, nat_eq, nat_le, nat_lt, List, ◌∷◌, ◌++◌, take, Option, Some, None, refl, ◌∙◌, leb-true, ltb-true, [], sym}
 use Rattle.std.specs.Prelude.{slice_get, is_none, is_some, IsTrue}
 use Rattle.std.specs.Cmp.Lexicographic.{pointwise}
 use Rattle.rl_defs.specs.declared.idl.Idl.{Idl}
@@ -16,17 +21,18 @@ use Rattle.rl_defs.specs.DomainValue.{Domain}
 use Rattle.rl_defs.specs.Domains.{Lines, trait_name}
 use Rattle.rl_defs.specs.CodeNames.{Declared, imports, place_in, type_at}
 use Rattle.rl_defs.specs.Interfaces.{place_of}
-use Rattle.rl_defs.specs.BundleNames.{given, given_by, names_of, load_given, slot_given, client_given, load_names, lines_of_domain}
+use Rattle.rl_defs.specs.BundleNames.{given, given_by, names_of, load_given, slot_given, client_given, load_names, lines_of_domain, load_behind, load_lines, target_lines, shadowed, device_given}
 use Rattle.rl_defs.specs.BundleOrder.{bundle_of}
-use Rattle.rl_defs.specs.PlanRules.{PlanIs, LoadIs, IsUnbound, HasOtherTrait, IsBoundBackwards, ShadowsNative, ShadowsAgain, HasDeviceTwice, GoesOver, HasTooManySlots, IsTooMuch, FailsPlanRules, load_of_target}
+use Rattle.rl_defs.specs.Refusals.{HasLine}
+use Rattle.rl_defs.specs.PlanRules.{IsUnbound, HasOtherTrait, IsBoundBackwards, ShadowsNative, GoesOver, HasTooManySlots, IsTooMuch, FailsPlanRules}
 use Rattle.plan_checker.specs.Facts.{HasLoadNames}
 use Rattle.plan_checker.specs.LineScan.{given_before}
 use Rattle.plan_checker.specs.Limits.{is_over_in_domain, is_over_in_clients, commands_before, is_full}
-use Rattle.plan_checker.specs.Lookups.{plan_bundle, lines_loaded, lines_of_load, lines_of_named, lines_of_target, place_of_named, place_of_target, shadowed, bound_at}
-use Rattle.plan_checker.specs.PlanTests.{has_unbound, differs, is_behind, has_native, loads_shadowed, device_given, FailsPlanLine}
+use Rattle.plan_checker.specs.Lookups.{plan_bundle, place_of_target, bound_at}
+use Rattle.plan_checker.specs.PlanTests.{has_unbound, differs, is_behind, has_native, loads_shadowed, FailsPlanLine}
 use Rattle.plan_checker.specs.Parts.{FailsParts}
 use Rattle.plan_checker.proofs.Dots.{name_no_dot, bound_same}
-use Rattle.plan_checker.proofs.Members.{any_where, none_from, some_from, or_parts, get_giver, named_at, take_get, get_zero, shadow_one, device_one, outside_is, text_there}
+use Rattle.plan_checker.proofs.Members.{any_where, none_from, some_from, or_parts, get_giver, named_at, get_zero, device_one, outside_is, text_there, given_earlier}
 use Rattle.plan_checker.proofs.Placing.{place_there}
 use Rattle.plan_checker.proofs.Scanning.{given_at, given_here}
 use Rattle.plan_checker.proofs.Scripts.{Goes, is_command}
@@ -42,7 +48,7 @@ module _ (idl : Idl) (domains : List Domain) (p : Plan) (c : Clients) where
   abbrev Fails : ℕ → ℕ → Type 0
   Fails n rule = FailsPlanRules whole n rule
 
-  abbrev plan_is : (n place : ℕ) (form : PlanLine) → slice_get p.lines place ≡ Some (record { line = n; form = form }) → PlanIs whole n form
+  abbrev plan_is : (n place : ℕ) (form : PlanLine) → slice_get p.lines place ≡ Some (record { line = n; form = form }) → HasLine p.lines n form
   plan_is n place form here = record { place = place; here = here }
 
   from_40 : (n place : ℕ) (name domain : List ℕ) → HasLoadNames p.lines → slice_get p.lines place ≡ Some (record { line = n; form = plan.Load name domain }) → (o : Option Lines) → lines_of_domain part domain ≡ o → has_unbound p.lines name o ≡ true → IsUnbound whole n
@@ -62,40 +68,26 @@ module _ (idl : Idl) (domains : List Domain) (p : Plan) (c : Clients) where
         unbound = none_from (place_of (name ++ 46 ∷ one.one.name) (names_of (given_by Rattle.rl_defs.specs.BundleNames.bind_given p.lines))) (bound_same p.lines name one.one.name (no_dots p.lines names) (name_no_dot name named) ∙ one.passes);
       }
 
-  loaded_from : (load : List ℕ) (lines : Lines) (o : Option (List ℕ)) → Rattle.rl_defs.specs.BundleNames.domain_of_load part load ≡ o → lines_loaded part o ≡ Some lines → LoadIs whole load lines
-  loaded_from load lines None is e = absurd cc
-  loaded_from load lines (Some domain) is e = record { domain = domain; loaded = is; text = e }
-
-  load_from : (load : List ℕ) (lines : Lines) → lines_of_load part load ≡ Some lines → LoadIs whole load lines
-  load_from load lines e = loaded_from load lines (Rattle.rl_defs.specs.BundleNames.domain_of_load part load) refl e
-
-  target_from : (target : List ℕ) (lines : Lines) (o : Option (List ℕ)) → load_of_target part target ≡ o → lines_of_named part o ≡ Some lines → (load : List ℕ) × (load_of_target whole target ≡ Some load) × LoadIs whole load lines
-  target_from target lines None is e = absurd cc
-  target_from target lines (Some load) is e = (load, is, load_from load lines e)
-
-  from_41 : (n place : ℕ) (load import target : List ℕ) → slice_get p.lines place ≡ Some (record { line = n; form = plan.Bind load import target }) → (o q : Option Lines) → lines_of_load part load ≡ o → lines_of_target part target ≡ q → differs o import q ≡ true → HasOtherTrait whole n
+  from_41 : (n place : ℕ) (load import target : List ℕ) → slice_get p.lines place ≡ Some (record { line = n; form = plan.Bind load import target }) → (o q : Option Lines) → load_lines part load ≡ o → target_lines part target ≡ q → differs o import q ≡ true → HasOtherTrait whole n
   from_41 n place load import target here None q is are t = absurd cc
   from_41 n place load import target here (Some binds) None is are t = absurd cc
   from_41 n place load import target here (Some binds) (Some bound) is are t =
-      let of = target_from target bound (load_of_target part target) refl are in
       record {
         load = load;
         import = import;
         target = target;
         line = plan_is n place (plan.Bind load import target) here;
         lines = binds;
-        binds = load_from load binds is;
-        target_load = of.0;
-        stands_for = of.1;
-        target_lines = bound;
-        bound = of.2;
-        other = other (pointwise nat_eq (type_at (imports binds) (place_in import (imports binds))) (trait_name bound)) t;
+        binds = is;
+        others = bound;
+        bound = are;
+        differ = λ same. other (pointwise nat_eq (type_at (imports binds) (place_in import (imports binds))) (trait_name bound)) ((slice_eq-Decides Decides-eqb (type_at (imports binds) (place_in import (imports binds))) (trait_name bound) (pointwise nat_eq (type_at (imports binds) (place_in import (imports binds))) (trait_name bound)) refl).1 (sym same)) t;
       } where
-        other : (b : Bool) → not b ≡ true → cond {A = Option ℕ} b (Some 0) None ≡ None
-        other true e = absurd cc
-        other false e = refl
+        other : (b : Bool) → b ≡ true → not b ≡ true → ⊥
+        other true e d = absurd cc
+        other false e d = absurd cc
 
-  place_from : (target : List ℕ) (place : ℕ) (o : Option (List ℕ)) → load_of_target part target ≡ o → place_of_named part o ≡ Some place → (load : List ℕ) × (load_of_target whole target ≡ Some load) × (place_of load (load_names whole) ≡ Some place)
+  place_from : (target : List ℕ) (place : ℕ) (o : Option (List ℕ)) → load_behind part target ≡ o → option_and_then (λ l. place_of l (load_names part)) o ≡ Some place → (load : List ℕ) × (load_behind whole target ≡ Some load) × (place_of load (load_names whole) ≡ Some place)
   place_from target place None is e = absurd cc
   place_from target place (Some load) is e = (load, is, e)
 
@@ -103,7 +95,7 @@ module _ (idl : Idl) (domains : List Domain) (p : Plan) (c : Clients) where
   from_42 n place load import target here None q is are t = absurd cc
   from_42 n place load import target here (Some k) None is are t = absurd cc
   from_42 n place load import target here (Some k) (Some j) is are t =
-      let of = place_from target j (load_of_target part target) refl are in
+      let of = place_from target j (load_behind part target) refl are in
       record {
         load = load;
         import = import;
@@ -118,48 +110,43 @@ module _ (idl : Idl) (domains : List Domain) (p : Plan) (c : Clients) where
         behind = leb-true k j t;
       }
 
-  from_native : (n place : ℕ) (name load : List ℕ) (restarts : ℕ) → slice_get p.lines place ≡ Some (record { line = n; form = plan.Shadow name load restarts }) → (o : Option Lines) → lines_of_load part load ≡ o → has_native o ≡ true → ShadowsNative whole n
+  from_native : (n place : ℕ) (name load : List ℕ) (restarts : ℕ) → slice_get p.lines place ≡ Some (record { line = n; form = plan.Shadow name load restarts }) → (o : Option Lines) → load_lines part load ≡ o → has_native o ≡ true → ShadowsNative whole n
   from_native n place name load restarts here None is t = absurd cc
-  from_native n place name load restarts here (Some text) is t = record { name = name; load = load; restarts = restarts; line = plan_is n place (plan.Shadow name load restarts) here; lines = text; stands_for = load_from load text is; native = t }
+  from_native n place name load restarts here (Some text) is t = record { name = name; load = load; restarts = restarts; line = plan_is n place (plan.Shadow name load restarts) here; lines = text; text = is; native = t }
 
-  from_again : (n place : ℕ) (name load : List ℕ) (restarts : ℕ) → slice_get p.lines place ≡ Some (record { line = n; form = plan.Shadow name load restarts }) → is_some (place_of load (loads_shadowed (take place p.lines))) ≡ true → ShadowsAgain whole n
+  from_again : (n place : ℕ) (name load : List ℕ) (restarts : ℕ) → slice_get p.lines place ≡ Some (record { line = n; form = plan.Shadow name load restarts }) → is_some (place_of load (loads_shadowed (take place p.lines))) ≡ true → GivenTwice (given_by shadowed p.lines) n
   from_again n place name load restarts here t =
       let before = take place p.lines in
       let some = some_from (place_of load (loads_shadowed before)) t in
       let giver = get_giver (given_by shadowed before) some.0 load (place_there load (loads_shadowed before) some.0 some.1) in
-      let at = given_at shadowed before some.0 giver.one giver.here in
-      let form = shadow_one at.form at.index giver.one.name at.name in
-      let there = take_get p.lines place at.place (record { line = giver.one.line; form = at.form }) at.here in
       record {
-        name = name;
-        load = load;
-        restarts = restarts;
-        line = plan_is n place (plan.Shadow name load restarts) here;
-        earlier = at.place;
-        number = giver.one.line;
-        other = form.0;
-        others = form.1;
-        before = there.0;
-        there = there.1 ∙ ap (λ (f : PlanLine). Some (record { line = giver.one.line; form = f })) (form.2 ∙ ap (λ (l : List ℕ). plan.Shadow form.0 l form.1) giver.name);
+        earlier = some.0;
+        place = given_before shadowed p.lines place;
+        before = get_within (given_by shadowed before) some.0 giver.one giver.here;
+        first = giver.one;
+        second = given n load;
+        there = given_earlier shadowed p.lines place some.0 giver.one giver.here;
+        here = given_here shadowed p.lines place n (plan.Shadow name load restarts) load here refl;
+        line = refl;
+        again = sym giver.name;
       }
 
-  from_45 : (n place : ℕ) (load : List ℕ) (blocks : ℕ) → slice_get p.lines place ≡ Some (record { line = n; form = plan.Device load blocks }) → nat_lt 0 (given_before device_given p.lines place) ≡ true → HasDeviceTwice whole n
+  from_45 : (n place : ℕ) (load : List ℕ) (blocks : ℕ) → slice_get p.lines place ≡ Some (record { line = n; form = plan.Device load blocks }) → nat_lt 0 (given_before device_given p.lines place) ≡ true → GivenTwice (given_by device_given p.lines) n
   from_45 n place load blocks here t =
       let before = take place p.lines in
       let giver = get_zero (given_by device_given before) (ltb-true 0 (given_before device_given p.lines place) t) in
       let at = given_at device_given before 0 giver.0 giver.1 in
       let form = device_one at.form at.index giver.0.name at.name in
-      let there = take_get p.lines place at.place (record { line = giver.0.line; form = at.form }) at.here in
       record {
-        load = load;
-        blocks = blocks;
-        line = plan_is n place (plan.Device load blocks) here;
-        earlier = at.place;
-        number = giver.0.line;
-        other = giver.0.name;
-        others = form.0;
-        before = there.0;
-        there = there.1 ∙ ap (λ (f : PlanLine). Some (record { line = giver.0.line; form = f })) form.1;
+        earlier = 0;
+        place = given_before device_given p.lines place;
+        before = ltb-true 0 (given_before device_given p.lines place) t;
+        first = giver.0;
+        second = given n [];
+        there = given_earlier device_given p.lines place 0 giver.0 giver.1;
+        here = given_here device_given p.lines place n (plan.Device load blocks) [] here refl;
+        line = refl;
+        again = sym form.4;
       }
 
   loads_over : (n place : ℕ) (name domain : List ℕ) → slice_get p.lines place ≡ Some (record { line = n; form = plan.Load name domain }) → nat_le 64 (given_before load_given p.lines place) ≡ true → GoesOver 64 (given_by load_given p.lines) n
@@ -175,9 +162,9 @@ module _ (idl : Idl) (domains : List Domain) (p : Plan) (c : Clients) where
   from_line : (n rule place : ℕ) (form : PlanLine) → HasLoadNames p.lines → slice_get p.lines place ≡ Some (record { line = n; form = form }) → FailsPlanLine part place form rule → Fails n rule
   from_line n rule place (plan.Load name domain) names here (inl h) = inl (h.0, from_40 n place name domain names here (lines_of_domain part domain) refl h.1)
   from_line n rule place (plan.Load name domain) names here (inr h) = from_46 n rule h.0 (inr (inl (loads_over n place name domain here h.1)))
-  from_line n rule place (plan.Bind load import target) names here (inl h) = inr (inl (h.0, from_41 n place load import target here (lines_of_load part load) (lines_of_target part target) refl refl h.1))
+  from_line n rule place (plan.Bind load import target) names here (inl h) = inr (inl (h.0, from_41 n place load import target here (load_lines part load) (target_lines part target) refl refl h.1))
   from_line n rule place (plan.Bind load import target) names here (inr h) = inr (inr (inl (h.0, from_42 n place load import target here (place_of load (load_names part)) (place_of_target part target) refl refl h.1)))
-  from_line n rule place (plan.Shadow name load restarts) names here (inl h) = inr (inr (inr (inl (h.0, elim (or_parts (has_native (lines_of_load part load)) (is_some (place_of load (loads_shadowed (take place p.lines)))) h.1) [ inl a ↦ inl (from_native n place name load restarts here (lines_of_load part load) refl a) | inr a ↦ inr (from_again n place name load restarts here a) ]))))
+  from_line n rule place (plan.Shadow name load restarts) names here (inl h) = inr (inr (inr (inl (h.0, elim (or_parts (has_native (load_lines part load)) (is_some (place_of load (loads_shadowed (take place p.lines)))) h.1) [ inl a ↦ inl (from_native n place name load restarts here (load_lines part load) refl a) | inr a ↦ inr (from_again n place name load restarts here a) ]))))
   from_line n rule place (plan.Shadow name load restarts) names here (inr h) = inr (inr (inr (inr (inl (h.0, record { name = name; load = load; restarts = restarts; line = plan_is n place (plan.Shadow name load restarts) here; many = ltb-true 16 restarts h.1 })))))
   from_line n rule place (plan.Device load blocks) names here (inl h) = inr (inr (inr (inr (inr (inl (h.0, from_45 n place load blocks here h.1))))))
   from_line n rule place (plan.Device load blocks) names here (inr h) = from_46 n rule h.0 (inr (inr (inr (inr (inr (inr (record { load = load; blocks = blocks; line = plan_is n place (plan.Device load blocks) here; outside = outside_is 1 4096 blocks h.1 })))))))
@@ -196,7 +183,7 @@ module _ (idl : Idl) (domains : List Domain) (p : Plan) (c : Clients) where
   }
 
   from_domain : (n place number : ℕ) (d : Domain) (form : DomainLine) → slice_get domains number ≡ Some d → slice_get d.lines place ≡ Some (record { line = n; form = form }) → is_over_in_domain (given_before slot_given d.lines place) form ≡ true → IsTooMuch whole n
-  from_domain n place number d (line.Words m) there here t = inr (inr (inr (inr (inl (record { lines = d.lines; domain = record { place = number; here = text_there domains number d there }; place = place; words = m; here = here; many = ltb-true 4096 m t })))))
+  from_domain n place number d (line.Words m) there here t = inr (inr (inr (inr (inl (record { lines = d.lines; domain = record { place = number; here = text_there domains number d there }; words = m; line = record { place = place; here = here }; many = ltb-true 4096 m t })))))
   from_domain n place number d (line.Slot name ty) there here t = inr (inr (inl (slots_over n place number d name ty there here t)))
   from_domain n place number d (line.Domain name has) there here t = false_true t
   from_domain n place number d (line.Import name has) there here t = false_true t
@@ -210,7 +197,7 @@ module _ (idl : Idl) (domains : List Domain) (p : Plan) (c : Clients) where
   commands_over n place form here goes None is t = false_true t
   commands_over n place form here goes (Some m) is t =
       let h = is_command c.lines place m (record { line = n; form = form }) is here goes in
-      inr (inr (inr (inl (record { script = h.script; number = h.number; client = h.there; place = m; over = leb-true 1000 m t; form = form; here = h.here }))))
+      inr (inr (inr (inl (record { command = record { script = h.script; number = h.number; client = h.there; place = m; form = form; here = h.here }; over = leb-true 1000 m t }))))
 
   clients_over : (n place : ℕ) (name : List ℕ) → slice_get c.lines place ≡ Some (record { line = n; form = client.Client name }) → nat_le 16 (given_before client_given c.lines place) ≡ true → IsTooMuch whole n
   clients_over n place name here t = inl (record { place = given_before client_given c.lines place; over = leb-true 16 (given_before client_given c.lines place) t; one = given n name; here = given_here client_given c.lines place n (client.Client name) name here refl; line = refl })

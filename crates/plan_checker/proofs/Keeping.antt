@@ -21,7 +21,7 @@ use Rattle.plan_checker.specs.Lookups.{PlanLines, plan_bundle}
 use Rattle.plan_checker.specs.Loaded.{IsLoaded, LoadsLoaded, at_place, beside, AreLoaded, wanted, IsPut}
 use Rattle.plan_checker.proofs.Steps.{gives}
 use Rattle.plan_checker.proofs.Placing.{behind, place_some}
-use Rattle.plan_checker.proofs.Looking.{lines_at, text_lines, look_domain, name_at, look_loaded}
+use Rattle.plan_checker.proofs.Looking.{lines_at, name_at}
 use Rattle.plan_checker.proofs.Tabling.{names_in, lines_in, gives_append}
 
 -- ---- what stands beside a name, where others are left out
@@ -107,7 +107,7 @@ texts_names (d ∷ ds) = ap (λ (ls : Lines). d.lines ++ ls) (texts_names ds)
 names_are : (domains : List Domain) (lines : PlanLines) → domain_names (plan_bundle domains lines) ≡ names_in domains
 names_are domains lines = ap (gives domain_given) (texts_names domains)
 
-lines_there : (domains : List Domain) (k : ℕ) → text_lines (slice_get (map text_of domains) k) ≡ slice_get (lines_in domains) k
+lines_there : (domains : List Domain) (k : ℕ) → option_map (λ (d : DomainText). d.lines) (slice_get (map text_of domains) k) ≡ slice_get (lines_in domains) k
 lines_there [] zero = refl
 lines_there [] (suc k) = refl
 lines_there (d ∷ ds) zero = refl
@@ -118,7 +118,7 @@ lines_found domains None = refl
 lines_found domains (Some k) = lines_there domains k
 
 lines_beside : (domains : List Domain) (lines : PlanLines) (q : List ℕ) → lines_of_domain (plan_bundle domains lines) q ≡ beside (names_in domains) (lines_in domains) q
-lines_beside domains lines q = look_domain (plan_bundle domains lines) q ∙ ap (λ (ns : List (List ℕ)). lines_at (map text_of domains) (place_of q ns)) (names_are domains lines) ∙ lines_found domains (place_of q (names_in domains))
+lines_beside domains lines q = ap (λ (ns : List (List ℕ)). lines_at (map text_of domains) (place_of q ns)) (names_are domains lines) ∙ lines_found domains (place_of q (names_in domains))
 
 -- ---- all domains, one after the other
 
@@ -214,7 +214,7 @@ name_picked names (Some k) d e = place_some d names k e
 
 -- the domain of a load is loaded
 pub load_loaded : (b : Bundle) (load d : List ℕ) → domain_of_load b load ≡ Some d → IsLoaded b d
-load_loaded b load d e = name_picked (gives domains_loaded b.plan.lines) (place_of load (Rattle.rl_defs.specs.BundleNames.load_names b)) d (sym (look_loaded b load) ∙ e)
+load_loaded b load d e = name_picked (gives domains_loaded b.plan.lines) (place_of load (Rattle.rl_defs.specs.BundleNames.load_names b)) d e
 
 still_there : (q n : List ℕ) (ns : List (List ℕ)) → is_some (place_of q ns) ≡ true → is_some (place_of q (n ∷ ns)) ≡ true
 still_there q n ns h = here (pointwise nat_eq n q) (place_of q ns) h where

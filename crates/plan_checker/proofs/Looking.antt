@@ -1,78 +1,43 @@
 -- Look-ups of domains, loads and targets.
-use Rattle.std.proofs.Common.{◌≡◌, ℕ, zero, suc, ◌+◌, Bool, true, false, not, cond, nat_eq, List, [], ◌∷◌, ◌++◌, length, map, Option, Some, None, refl, sym, ap, subst, ◌∙◌, arith}
+use Rattle.std.proofs.Common.{◌≡◌, ℕ, zero, suc, ◌+◌, Bool, true, not, nat_eq, List, [], ◌∷◌, ◌++◌, length, map, Option, Some, None, refl, sym, ap, subst, ◌∙◌, arith}
 use Rattle.std.specs.Prelude.{slice_get, IsTrue}
 use Rattle.std.specs.List.{flat_map, slice_index_or}
-use Rattle.std.specs.Option.{option_map}
+use Rattle.std.specs.Option.{option_map, option_and_then}
 use Rattle.std.specs.Cmp.Lexicographic.{pointwise}
 use Rattle.rl_defs.specs.declared.bundle.Bundle.{Bundle}
 use Rattle.rl_defs.specs.declared.bundle.Numbered.{Numbered}
 use Rattle.rl_defs.specs.declared.bundle.PlanLine.{PlanLine}
-use Rattle.rl_defs.specs.declared.bundle.PlanLine.TheVariants as plan
 use Rattle.rl_defs.specs.declared.code.DomainText.{DomainText}
 use Rattle.rl_defs.specs.Words.{is_name}
 use Rattle.rl_defs.specs.Interfaces.{place_of}
 use Rattle.rl_defs.specs.Domains.{Lines, trait_name}
 use Rattle.rl_defs.specs.CodeNames.{Declared, imports, type_at, type_of}
-use Rattle.rl_defs.specs.BundleNames.{given_by, names_of, domain_names, load_names, domains_loaded, lines_of_domain, domain_of_load}
-use Rattle.rl_defs.specs.PlanRules.{load_of_shadow, shadow_load}
-use Rattle.rl_defs.specs.Standing.{shadow_given, shadow_names, target_number, counted, bound_to, bound_in}
+use Rattle.rl_defs.specs.BundleNames.{given_by, names_of, load_names, domains_loaded, domain_of_load, shadow_names, shadowed}
+use Rattle.rl_defs.specs.LoadOf.{target_number, counted, bound_to, bound_in}
 use Rattle.plan_checker.specs.Facts.{AreNames, import_names, import_traits}
-use Rattle.plan_checker.specs.Lookups.{PlanLines, shadowed, bound_at}
+use Rattle.plan_checker.specs.Lookups.{bound_at, load_of_shadow}
 use Rattle.plan_checker.specs.PlanTests.{is_other_trait}
 use Rattle.plan_checker.proofs.Placing.{behind, number_first, place_second, no_empty}
 
-abbrev pub text_lines : Option DomainText → Option Lines
-text_lines None = None
-text_lines (Some d) = Some d.lines
-
-abbrev pub lines_at : List DomainText → Option ℕ → Option Lines
-lines_at domains None = None
-lines_at domains (Some k) = text_lines (slice_get domains k)
-
 -- the domain of a name, by its place
-pub look_domain : (b : Bundle) (name : List ℕ) → lines_of_domain b name ≡ lines_at b.domains (place_of name (domain_names b))
-look_domain b name = refl
+abbrev pub lines_at : List DomainText → Option ℕ → Option Lines
+lines_at domains o = option_map (λ d. d.lines) (option_and_then (slice_get domains) o)
 
 abbrev pub name_at : List (List ℕ) → Option ℕ → Option (List ℕ)
-name_at names None = None
-name_at names (Some k) = slice_get names k
-
-pub look_loaded : (b : Bundle) (load : List ℕ) → domain_of_load b load ≡ name_at (names_of (given_by domains_loaded b.plan.lines)) (place_of load (load_names b))
-look_loaded b load = refl
+name_at names o = option_and_then (slice_get names) o
 
 pub loaded_some : (b : Bundle) (load : List ℕ) (k : ℕ) → place_of load (load_names b) ≡ Some k → slice_get (names_of (given_by domains_loaded b.plan.lines)) k ≡ domain_of_load b load
-loaded_some b load k e = sym (look_loaded b load ∙ ap (name_at (names_of (given_by domains_loaded b.plan.lines))) e)
+loaded_some b load k e = sym (ap (name_at (names_of (given_by domains_loaded b.plan.lines))) e)
 
 pub loaded_none : (b : Bundle) (load : List ℕ) → place_of load (load_names b) ≡ None → domain_of_load b load ≡ None
-loaded_none b load e = look_loaded b load ∙ ap (name_at (names_of (given_by domains_loaded b.plan.lines))) e
+loaded_none b load e = ap (name_at (names_of (given_by domains_loaded b.plan.lines))) e
 
 -- the load of a shadow, by its place
-pick : (name load target : List ℕ) (restarts : ℕ) (others : Option (List ℕ)) (b : Bool) → pointwise nat_eq name target ≡ b → shadow_load (plan.Shadow name load restarts) target others ≡ cond b (Some load) others
-pick name load target restarts others true e = rw e refl
-pick name load target restarts others false e = rw e refl
+pub shadow_some : (b : Bundle) (target : List ℕ) (k : ℕ) → place_of target (shadow_names b) ≡ Some k → slice_get (names_of (given_by shadowed b.plan.lines)) k ≡ load_of_shadow b target
+shadow_some b target k e = sym (ap (name_at (names_of (given_by shadowed b.plan.lines))) e)
 
-pub look_shadow : (lines : PlanLines) (target : List ℕ) → load_of_shadow lines target ≡ name_at (names_of (given_by shadowed lines)) (place_of target (names_of (given_by shadow_given lines)))
-look_shadow [] target = refl
-look_shadow (l ∷ ls) target = by_form l.form (look_shadow ls target) where
-  choose : (b : Bool) (load : List ℕ) (loads : List (List ℕ)) (place : Option ℕ) (others : Option (List ℕ)) → others ≡ name_at loads place → cond b (Some load) others ≡ name_at (load ∷ loads) (cond b (Some 0) (option_map (λ (i : ℕ). suc i) place))
-  choose true load loads place others e = refl
-  choose false load loads None others e = e
-  choose false load loads (Some k) others e = e
-
-  by_form : (form : PlanLine) → load_of_shadow ls target ≡ name_at (names_of (given_by shadowed ls)) (place_of target (names_of (given_by shadow_given ls))) → shadow_load form target (load_of_shadow ls target) ≡ name_at (names_of (given_by shadowed (record { line = l.line; form = form } ∷ ls))) (place_of target (names_of (given_by shadow_given (record { line = l.line; form = form } ∷ ls))))
-  by_form (plan.Shadow name load restarts) e = pick name load target restarts (load_of_shadow ls target) (pointwise nat_eq name target) refl ∙ choose (pointwise nat_eq name target) load (names_of (given_by shadowed ls)) (place_of target (names_of (given_by shadow_given ls))) (load_of_shadow ls target) e
-  by_form (plan.Load name domain) e = e
-  by_form (plan.Bind load import target') e = e
-  by_form (plan.Device load blocks) e = e
-  by_form (plan.Serial load) e = e
-  by_form (plan.Fuel n) e = e
-  by_form (plan.Order clients) e = e
-
-pub shadow_some : (lines : PlanLines) (target : List ℕ) (k : ℕ) → place_of target (names_of (given_by shadow_given lines)) ≡ Some k → slice_get (names_of (given_by shadowed lines)) k ≡ load_of_shadow lines target
-shadow_some lines target k e = sym (look_shadow lines target ∙ ap (name_at (names_of (given_by shadowed lines))) e)
-
-pub shadow_none : (lines : PlanLines) (target : List ℕ) → place_of target (names_of (given_by shadow_given lines)) ≡ None → load_of_shadow lines target ≡ None
-shadow_none lines target e = look_shadow lines target ∙ ap (name_at (names_of (given_by shadowed lines))) e
+pub shadow_none : (b : Bundle) (target : List ℕ) → place_of target (shadow_names b) ≡ None → load_of_shadow b target ≡ None
+shadow_none b target e = ap (name_at (names_of (given_by shadowed b.plan.lines))) e
 
 -- the number of a target
 pub number_of_load : (target : List ℕ) (loads shadows : List (List ℕ)) (k : ℕ) → place_of target loads ≡ Some k → k + 1 ≡ counted (place_of target (loads ++ shadows))

@@ -7,10 +7,10 @@ use Rattle.rl_defs.specs.declared.bundle.Numbered.{Numbered}
 use Rattle.rl_defs.specs.declared.bundle.PlanLine.{PlanLine}
 use Rattle.rl_defs.specs.declared.bundle.PlanLine.TheVariants as plan
 use Rattle.rl_defs.specs.CodeNames.{Declared}
-use Rattle.rl_defs.specs.BundleNames.{given, given_by, names_of, load_given}
+use Rattle.rl_defs.specs.BundleNames.{given, given_by, names_of, load_given, shadowed, device_given}
 use Rattle.plan_checker.specs.LineScan.{IsLowest, given_before}
-use Rattle.plan_checker.specs.Lookups.{PlanLines, shadowed}
-use Rattle.plan_checker.specs.PlanTests.{is_unbound, has_other_trait, is_bound_backwards, is_badly_shadowed, is_outside, loads_shadowed, device_given, FailsPlanLine, lowest_at}
+use Rattle.plan_checker.specs.Lookups.{PlanLines}
+use Rattle.plan_checker.specs.PlanTests.{is_unbound, has_other_trait, is_bound_backwards, is_badly_shadowed, is_outside, loads_shadowed, FailsPlanLine, lowest_at}
 use Rattle.plan_checker.proofs.Scanning.{lowest_is, given_more, before_more}
 
 lowest_here : (b : Bundle) (k : ℕ) (form : PlanLine) → IsLowest (FailsPlanLine b k form) (lowest_at b (given_before load_given b.plan.lines k) (loads_shadowed (take k b.plan.lines)) (given_before device_given b.plan.lines k) form)

@@ -1,5 +1,7 @@
 -- Things in lists, and the lines that give them.
-use Rattle.std.proofs.Common.{◌≡◌, ℕ, zero, suc, ◌<◌, ◌⊎◌, inl, inr, Bool, true, false, ◌||◌, nat_lt, List, [], ◌∷◌, map, take, length, Option, Some, None, refl, ap, subst, arith, lt-ltb, ltb-true}
+use Rattle.rl_defs.proofs.Places.{get_front}
+use Rattle.rl_defs.specs.BundleNames.{given_by, Given, given, names_of, load_given, slot_given, client_given, shadowed, device_given}
+use Rattle.std.proofs.Common.{append_assoc, ◌++◌, ◌∙◌, ◌≡◌, ℕ, zero, suc, ◌<◌, ◌⊎◌, inl, inr, Bool, true, false, ◌||◌, nat_lt, List, [], ◌∷◌, map, take, length, Option, Some, None, refl, ap, subst, arith, lt-ltb, ltb-true, drop, sym}
 use Rattle.std.specs.Prelude.{slice_get, is_none, is_some, IsTrue}
 use Rattle.std.specs.List.{list_any}
 use Rattle.rl_defs.specs.declared.bundle.Numbered.{Numbered}
@@ -12,13 +14,11 @@ use Rattle.rl_defs.specs.declared.code.DomainLine.TheVariants as line
 use Rattle.rl_defs.specs.Words.{is_name}
 use Rattle.rl_defs.specs.DomainValue.{Domain}
 use Rattle.rl_defs.specs.declared.code.DomainText.{DomainText}
-use Rattle.rl_defs.specs.BundleNames.{Given, given, given_by, names_of, load_given, slot_given, client_given}
 use Rattle.rl_defs.specs.BundleOrder.{text_of}
 use Rattle.rl_defs.specs.PlanRules.{IsOutside}
 use Rattle.plan_checker.specs.Facts.{AreNames}
 use Rattle.plan_checker.specs.LineScan.{given_before}
-use Rattle.plan_checker.specs.Lookups.{shadowed}
-use Rattle.plan_checker.specs.PlanTests.{device_given, is_outside}
+use Rattle.plan_checker.specs.PlanTests.{is_outside}
 use Rattle.plan_checker.proofs.Scanning.{given_here}
 
 pub any_there : {X : Type 0} (test : X → Bool) (xs : List X) (k : ℕ) (x : X) → slice_get xs k ≡ Some x → test x ≡ true → list_any test xs ≡ true
@@ -110,8 +110,8 @@ load_one (plan.Serial load) j name e = absurd cc
 load_one (plan.Fuel n) j name e = absurd cc
 load_one (plan.Order clients) j name e = absurd cc
 
-pub shadow_one : (form : PlanLine) (j : ℕ) (load : List ℕ) → slice_get (shadowed form) j ≡ Some load → (name : List ℕ) × (restarts : ℕ) × (form ≡ plan.Shadow name load restarts)
-shadow_one (plan.Shadow n l restarts) zero load e = let same : l ≡ load = cc in (n, restarts, ap (λ (x : List ℕ). plan.Shadow n x restarts) same)
+pub shadow_one : (form : PlanLine) (j : ℕ) (load : List ℕ) → slice_get (shadowed form) j ≡ Some load → (name : List ℕ) × (restarts : ℕ) × (form ≡ plan.Shadow name load restarts) × (j ≡ 0)
+shadow_one (plan.Shadow n l restarts) zero load e = let same : l ≡ load = cc in (n, restarts, ap (λ (x : List ℕ). plan.Shadow n x restarts) same, refl)
 shadow_one (plan.Shadow n l restarts) (suc j) load e = absurd cc
 shadow_one (plan.Load n domain) j load e = absurd cc
 shadow_one (plan.Bind l import target) j load e = absurd cc
@@ -120,9 +120,9 @@ shadow_one (plan.Serial l) j load e = absurd cc
 shadow_one (plan.Fuel n) j load e = absurd cc
 shadow_one (plan.Order clients) j load e = absurd cc
 
-pub device_one : (form : PlanLine) (j : ℕ) (load : List ℕ) → slice_get (device_given form) j ≡ Some load → (blocks : ℕ) × (form ≡ plan.Device load blocks)
-device_one (plan.Device l blocks) zero load e = let same : l ≡ load = cc in (blocks, ap (λ (x : List ℕ). plan.Device x blocks) same)
-device_one (plan.Device l blocks) (suc j) load e = absurd cc
+pub device_one : (form : PlanLine) (j : ℕ) (name : List ℕ) → slice_get (device_given form) j ≡ Some name → (load : List ℕ) × (blocks : ℕ) × (form ≡ plan.Device load blocks) × (j ≡ 0) × (name ≡ [])
+device_one (plan.Device l blocks) zero name e = (l, blocks, refl, refl, cc)
+device_one (plan.Device l blocks) (suc j) name e = absurd cc
 device_one (plan.Load n domain) j load e = absurd cc
 device_one (plan.Bind l import target) j load e = absurd cc
 device_one (plan.Shadow n l restarts) j load e = absurd cc
@@ -171,3 +171,22 @@ pub text_there : (domains : List Domain) (k : ℕ) (d : Domain) → slice_get do
 text_there [] k d e = absurd cc
 text_there (x ∷ xs) zero d e = let same : x ≡ d = cc in ap (λ (y : Domain). Some (text_of y)) same
 text_there (x ∷ xs) (suc k) d e = text_there xs k d e
+
+-- what stands in a first part stands there in the whole, and back
+pub get_before : {X : Type 0} (xs ys : List X) (i : ℕ) (x : X) → slice_get (xs ++ ys) i ≡ Some x → i < length xs → slice_get xs i ≡ Some x
+get_before [] ys i x e lt = absurd (omega (arith, lt))
+get_before (y ∷ xs) ys zero x e lt = e
+get_before (y ∷ xs) ys (suc i) x e lt = get_before xs ys i x e (omega (arith, lt))
+
+-- what the lines before a place give, and then the others
+pub given_split : {Form : Type 0} (names : Form → List (List ℕ)) (k : ℕ) (lines : List (Numbered Form)) → given_by names (take k lines) ++ given_by names (drop k lines) ≡ given_by names lines
+given_split names zero [] = refl
+given_split names (suc k) [] = refl
+given_split names zero (l ∷ ls) = refl
+given_split names (suc k) (l ∷ ls) = append_assoc (map (given l.line) (names l.form)) (given_by names (take k ls)) (given_by names (drop k ls)) ∙ ap (λ (gs : List Given). map (given l.line) (names l.form) ++ gs) (given_split names k ls)
+
+pub given_earlier : {Form : Type 0} (names : Form → List (List ℕ)) (lines : List (Numbered Form)) (k i : ℕ) (g : Given) → slice_get (given_by names (take k lines)) i ≡ Some g → slice_get (given_by names lines) i ≡ Some g
+given_earlier names lines k i g e = ap (λ (gs : List Given). slice_get gs i) (sym (given_split names k lines)) ∙ get_front (given_by names (take k lines)) (given_by names (drop k lines)) i g e
+
+pub earlier_given : {Form : Type 0} (names : Form → List (List ℕ)) (lines : List (Numbered Form)) (k i : ℕ) (g : Given) → slice_get (given_by names lines) i ≡ Some g → i < given_before names lines k → slice_get (given_by names (take k lines)) i ≡ Some g
+earlier_given names lines k i g e lt = get_before (given_by names (take k lines)) (given_by names (drop k lines)) i g (ap (λ (gs : List Given). slice_get gs i) (given_split names k lines) ∙ e) lt

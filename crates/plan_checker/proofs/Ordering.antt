@@ -9,9 +9,9 @@ use Rattle.rl_defs.specs.declared.bundle.Numbered.{Numbered}
 use Rattle.rl_defs.specs.declared.code.DomainText.{DomainText}
 use Rattle.rl_defs.specs.DomainValue.{Domain}
 use Rattle.rl_defs.specs.Domains.{Lines}
-use Rattle.rl_defs.specs.CodeFits.{IsOneDomain}
+use Rattle.rl_defs.specs.DomainParts.{IsOneDomain}
 use Rattle.rl_defs.specs.BundleOrder.{numbers_of, Rise, IsDomainText, bundle_of, text_of}
-use Rattle.rl_defs.specs.Acceptance.{HasNames}
+use Rattle.rl_defs.specs.EarlierRules.{HasNames}
 use Rattle.rl_defs.proofs.Places.{get_front, get_within}
 use Rattle.plan_checker.specs.LineScan.{LinesRise}
 use Rattle.plan_checker.specs.Limits.{DomainsRise}

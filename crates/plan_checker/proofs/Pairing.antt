@@ -7,7 +7,7 @@ use Rattle.rl_defs.specs.Words.{is_name, same_bytes}
 use Rattle.rl_defs.specs.declared.bundle.Numbered.{Numbered}
 use Rattle.rl_defs.specs.declared.bundle.PlanLine.{PlanLine}
 use Rattle.rl_defs.specs.declared.bundle.PlanLine.TheVariants as plan
-use Rattle.rl_defs.specs.Standing.{bound_in}
+use Rattle.rl_defs.specs.LoadOf.{bound_in}
 use Rattle.rl_defs.proofs.Places.{drop_at}
 use Rattle.name_tables.proofs.Placing.{same_name}
 use Rattle.plan_checker.specs.Facts.{AreNames}

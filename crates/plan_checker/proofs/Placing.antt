@@ -6,7 +6,7 @@ use Rattle.std.specs.Option.{option_map}
 use Rattle.std.specs.Cmp.Lexicographic.{pointwise}
 use Rattle.rl_defs.specs.Words.{is_name, same_bytes}
 use Rattle.rl_defs.specs.Interfaces.{place_of}
-use Rattle.rl_defs.specs.Standing.{counted}
+use Rattle.rl_defs.specs.LoadOf.{counted}
 use Rattle.rl_defs.proofs.Places.{get_last}
 use Rattle.name_tables.proofs.Placing.{same_name}
 use Rattle.plan_checker.specs.Facts.{AreNames}

@@ -9,13 +9,12 @@ use Rattle.rl_defs.specs.declared.code.DomainLine.TheVariants as line
 use Rattle.rl_defs.specs.DomainValue.{Domain}
 use Rattle.rl_defs.specs.Domains.{Lines}
 use Rattle.rl_defs.specs.DomainParts.{begins_domain, rest_of_domain}
-use Rattle.rl_defs.specs.CodeFits.{IsOneDomain}
+use Rattle.rl_defs.specs.DomainParts.{IsOneDomain}
 use Rattle.rl_defs.specs.Interfaces.{place_of}
-use Rattle.rl_defs.specs.BundleNames.{Given, given, given_by, names_of, domain_given, load_names, domains_loaded, serial_given}
-use Rattle.rl_defs.specs.PlanRules.{load_of_shadow}
-use Rattle.rl_defs.specs.Standing.{shadow_names, target_number, is_serial_in, bound_to}
+use Rattle.rl_defs.specs.BundleNames.{Given, given, given_by, names_of, domain_given, load_names, domains_loaded, serial_given, shadow_names, shadowed}
+use Rattle.rl_defs.specs.LoadOf.{target_number, is_serial_in, bound_to}
 use Rattle.plan_checker.specs.Facts.{AreNames}
-use Rattle.plan_checker.specs.Lookups.{shadowed, bound_at}
+use Rattle.plan_checker.specs.Lookups.{bound_at, load_of_shadow}
 use Rattle.plan_checker.specs.Tables.{ArePairs}
 use Rattle.plan_checker.proofs.Steps.{gives}
 use Rattle.plan_checker.proofs.Placing.{is_there, place_within}
@@ -28,11 +27,11 @@ Loads b names others = ArePairs names others (load_names b) (names_of (given_by 
 abbrev pub Shadows : Bundle → List (List ℕ) → List (List ℕ) → Type 0
 Shadows b names others = ArePairs names others (shadow_names b) (names_of (given_by shadowed b.plan.lines))
 
-pub shadow_found : (v b : Bundle) (names others : List (List ℕ)) (target : List ℕ) (k : ℕ) → v ≡ b → Shadows v names others → place_of target names ≡ Some k → slice_get others k ≡ load_of_shadow b.plan.lines target
-shadow_found v b names others target k same h at = subst (λ (x : Bundle). slice_get others k ≡ load_of_shadow x.plan.lines target) same (ap (λ xs. slice_get xs k) h.others_are ∙ shadow_some v.plan.lines target k (ap (place_of target) (sym h.names_are) ∙ at))
+pub shadow_found : (v b : Bundle) (names others : List (List ℕ)) (target : List ℕ) (k : ℕ) → v ≡ b → Shadows v names others → place_of target names ≡ Some k → slice_get others k ≡ load_of_shadow b target
+shadow_found v b names others target k same h at = subst (λ (x : Bundle). slice_get others k ≡ load_of_shadow x target) same (ap (λ xs. slice_get xs k) h.others_are ∙ shadow_some v target k (ap (place_of target) (sym h.names_are) ∙ at))
 
-pub shadow_missing : (v b : Bundle) (names others : List (List ℕ)) (target : List ℕ) → v ≡ b → Shadows v names others → place_of target names ≡ None → None ≡ load_of_shadow b.plan.lines target
-shadow_missing v b names others target same h at = subst (λ (x : Bundle). None ≡ load_of_shadow x.plan.lines target) same (sym (shadow_none v.plan.lines target (ap (place_of target) (sym h.names_are) ∙ at)))
+pub shadow_missing : (v b : Bundle) (names others : List (List ℕ)) (target : List ℕ) → v ≡ b → Shadows v names others → place_of target names ≡ None → None ≡ load_of_shadow b target
+shadow_missing v b names others target same h at = subst (λ (x : Bundle). None ≡ load_of_shadow x target) same (sym (shadow_none v target (ap (place_of target) (sym h.names_are) ∙ at)))
 
 pub serial_found : (v b : Bundle) (names : List (List ℕ)) (load : List ℕ) → v ≡ b → names ≡ names_of (given_by serial_given v.plan.lines) → is_some (place_of load names) ≡ is_serial_in b load
 serial_found v b names load same is = subst (λ (x : Bundle). is_some (place_of load names) ≡ is_serial_in x load) same (ap (λ xs. is_some (place_of load xs)) is ∙ is_there load (names_of (given_by serial_given v.plan.lines)))

@@ -1,5 +1,9 @@
 -- What fails in a bundle fails in one of its parts.
-use Rattle.std.proofs.Common.{◌≡◌, ℕ, inl, inr, Bool, true, false, not, cond, nat_eq, nat_le, List, map, take, Option, Some, None, refl, sym, ap, subst, ◌∙◌, arith, le-leb, lt-ltb}
+use Rattle.std.proofs.lemmas.Bool.Decides.{Decides-eqb}
+use Rattle.std.specs.Option.{option_and_then}
+use Rattle.std.proofs.lemmas.Slice.Eq.{slice_eq-Decides}
+use Rattle.rl_defs.specs.NameRules.{GivenTwice}
+use Rattle.std.proofs.Common.{◌≡◌, ℕ, inl, inr, Bool, true, false, not, nat_eq, nat_le, List, map, take, Option, Some, None, refl, sym, ap, subst, ◌∙◌, arith, le-leb, lt-ltb}
 use Rattle.std.specs.Prelude.{slice_get, is_none, is_some, IsTrue}
 use Rattle.std.specs.Cmp.Lexicographic.{pointwise}
 use Rattle.rl_defs.specs.declared.idl.Idl.{Idl}
@@ -17,20 +21,20 @@ use Rattle.rl_defs.specs.DomainValue.{Domain}
 use Rattle.rl_defs.specs.Domains.{Lines, trait_name}
 use Rattle.rl_defs.specs.CodeNames.{Declared, imports, place_in, type_at}
 use Rattle.rl_defs.specs.Interfaces.{place_of}
-use Rattle.rl_defs.specs.BundleNames.{given, given_by, load_given, slot_given, client_given}
+use Rattle.rl_defs.specs.BundleNames.{given_by, load_given, slot_given, client_given, load_lines, target_lines, shadowed, device_given, load_names}
 use Rattle.rl_defs.specs.BundleOrder.{bundle_of, text_of}
-use Rattle.rl_defs.specs.PlanRules.{PlanIs, LoadIs, IsUnbound, HasOtherTrait, IsBoundBackwards, ShadowsNative, ShadowsAgain, RestartsTooOften, HasDeviceTwice, GoesOver, HasTooManySlots, HasTooManyCommands, HasTooManyWords, HasOtherFuel, HasOtherDevice, IsTooMuch, FailsPlanRules, load_of_target}
-use Rattle.rl_defs.proofs.Places.{get_within}
+use Rattle.rl_defs.specs.Refusals.{HasLine}
+use Rattle.rl_defs.specs.PlanRules.{IsUnbound, HasOtherTrait, IsBoundBackwards, ShadowsNative, RestartsTooOften, GoesOver, HasTooManySlots, HasTooManyCommands, HasTooManyWords, HasOtherFuel, HasOtherDevice, IsTooMuch, FailsPlanRules}
 use Rattle.plan_checker.specs.Facts.{HasLoadNames}
 use Rattle.plan_checker.specs.LineScan.{FailsIn, given_before}
 use Rattle.plan_checker.specs.Limits.{FailsDomainLine, FailsDomains, FailsClientLine, is_over_in_clients, commands_before, is_full}
-use Rattle.plan_checker.specs.Lookups.{PlanLines, plan_bundle, lines_loaded, lines_of_load, lines_of_named, lines_of_target, place_of_named, place_of_target, shadowed, binding, bound_at}
-use Rattle.plan_checker.specs.PlanTests.{has_unbound, differs, is_behind, has_native, loads_shadowed, device_given, FailsPlanLine}
+use Rattle.plan_checker.specs.Lookups.{PlanLines, plan_bundle, place_of_target, binding, bound_at}
+use Rattle.plan_checker.specs.PlanTests.{has_unbound, differs, is_behind, has_native, loads_shadowed, FailsPlanLine}
 use Rattle.plan_checker.specs.Parts.{FailsParts}
 use Rattle.plan_checker.proofs.Dots.{NoDots, name_no_dot, bound_same}
-use Rattle.plan_checker.proofs.Members.{any_there, or_first, or_second, get_names, named_at, get_take, load_one, slot_one, client_one, outside_test, domain_there}
+use Rattle.plan_checker.proofs.Members.{any_there, or_first, or_second, get_names, named_at, load_one, slot_one, client_one, outside_test, domain_there, device_one, shadow_one, earlier_given}
 use Rattle.plan_checker.proofs.Placing.{place_some}
-use Rattle.plan_checker.proofs.Scanning.{given_at, given_here}
+use Rattle.plan_checker.proofs.Scanning.{given_at}
 use Rattle.plan_checker.proofs.Scripts.{StandsBehind, in_scripts}
 
 -- the loads that bind have no dots
@@ -47,7 +51,7 @@ module _ (idl : Idl) (domains : List Domain) (p : Plan) (c : Clients) where
   abbrev InPlan : ℕ → ℕ → Type 0
   InPlan n rule = FailsIn p.lines (FailsPlanLine part) n rule
 
-  at_line : (n rule : ℕ) (form : PlanLine) → (line : PlanIs whole n form) → FailsPlanLine part line.place form rule → InPlan n rule
+  at_line : (n rule : ℕ) (form : PlanLine) → (line : HasLine p.lines n form) → FailsPlanLine part line.place form rule → InPlan n rule
   at_line n rule form line fails = record { place = line.place; form = form; here = line.here; fails = fails }
 
   to_40 : (n : ℕ) → HasLoadNames p.lines → IsUnbound whole n → InPlan n 40
@@ -57,49 +61,52 @@ module _ (idl : Idl) (domains : List Domain) (p : Plan) (c : Clients) where
       let any = any_there (λ (d : Declared). is_none (bound_at p.lines h.name d.name)) (imports h.lines) h.place h.import h.of test in
       at_line n 40 (plan.Load h.name h.domain) h.line (inl (refl, ap (has_unbound p.lines h.name) h.text ∙ any))
 
-  load_lines : (load : List ℕ) (lines : Lines) → LoadIs whole load lines → lines_of_load part load ≡ Some lines
-  load_lines load lines h = ap (lines_loaded part) h.loaded ∙ h.text
-
-  target_lines : (target load : List ℕ) (lines : Lines) → load_of_target whole target ≡ Some load → LoadIs whole load lines → lines_of_target part target ≡ Some lines
-  target_lines target load lines is h = ap (lines_of_named part) is ∙ load_lines load lines h
-
   to_41 : (n : ℕ) → HasOtherTrait whole n → InPlan n 41
   to_41 n h =
+      let import = type_at (imports h.lines) (place_in h.import (imports h.lines)) in
       at_line n 41 (plan.Bind h.load h.import h.target) h.line
-      (inl (refl, ap (λ (o : Option Lines). differs o h.import (lines_of_target part h.target)) (load_lines h.load h.lines h.binds) ∙ ap (differs (Some h.lines) h.import) (target_lines h.target h.target_load h.target_lines h.stands_for h.bound) ∙ differ (pointwise nat_eq (type_at (imports h.lines) (place_in h.import (imports h.lines))) (trait_name h.target_lines)) h.other)) where
-        differ : (b : Bool) → cond {A = Option ℕ} b (Some 0) None ≡ None → not b ≡ true
-        differ true e = absurd cc
-        differ false e = refl
+      (inl (refl, ap (λ (o : Option Lines). differs o h.import (target_lines part h.target)) h.binds ∙ ap (differs (Some h.lines) h.import) h.bound ∙ apart (pointwise nat_eq import (trait_name h.others)) (λ same. h.differ (sym ((slice_eq-Decides Decides-eqb import (trait_name h.others) (pointwise nat_eq import (trait_name h.others)) refl).0 same))))) where
+        apart : (b : Bool) → (b ≡ true → ⊥) → not b ≡ true
+        apart true never = absurd (never refl)
+        apart false never = refl
 
   to_42 : (n : ℕ) → IsBoundBackwards whole n → InPlan n 42
   to_42 n h =
       at_line n 42 (plan.Bind h.load h.import h.target) h.line
-      (inr (refl, ap (λ (o : Option ℕ). is_behind o (place_of_target part h.target)) h.binds ∙ ap (is_behind (Some h.place)) (ap (place_of_named part) h.stands_for ∙ h.bound) ∙ le-leb h.place h.target_place h.behind))
+      (inr (refl, ap (λ (o : Option ℕ). is_behind o (place_of_target part h.target)) h.binds ∙ ap (is_behind (Some h.place)) (ap (option_and_then (λ (l : List ℕ). place_of l (load_names part))) h.stands_for ∙ h.bound) ∙ le-leb h.place h.target_place h.behind))
 
   to_native : (n : ℕ) → ShadowsNative whole n → InPlan n 43
   to_native n h =
       at_line n 43 (plan.Shadow h.name h.load h.restarts) h.line
-      (inl (refl, or_first (has_native (lines_of_load part h.load)) (is_some (place_of h.load (loads_shadowed (take h.line.place p.lines)))) (ap has_native (load_lines h.load h.lines h.stands_for) ∙ h.native)))
+      (inl (refl, or_first (has_native (load_lines part h.load)) (is_some (place_of h.load (loads_shadowed (take h.line.place p.lines)))) (ap has_native h.text ∙ h.native)))
 
-  to_again : (n : ℕ) → ShadowsAgain whole n → InPlan n 43
+  to_again : (n : ℕ) → GivenTwice (given_by shadowed p.lines) n → InPlan n 43
   to_again n h =
-      let before = take h.line.place p.lines in
-      let there = get_take p.lines h.line.place h.earlier (record { line = h.number; form = plan.Shadow h.other h.load h.others }) h.before h.there in
-      let place = given_before shadowed before h.earlier in
-      let name = get_names (given_by shadowed before) place (given h.number h.load) (given_here shadowed before h.earlier h.number (plan.Shadow h.other h.load h.others) h.load there refl) in
-      at_line n 43 (plan.Shadow h.name h.load h.restarts) h.line
-      (inl (refl, or_second (has_native (lines_of_load part h.load)) (is_some (place_of h.load (loads_shadowed before))) (place_some h.load (loads_shadowed before) place name)))
+      let at = given_at shadowed p.lines h.place h.second h.here in
+      let form = shadow_one at.form at.index h.second.name at.name in
+      let before = take at.place p.lines in
+      let first = earlier_given shadowed p.lines at.place h.earlier h.first h.there (omega (arith, h.before, at.at, form.3)) in
+      let name = get_names (given_by shadowed before) h.earlier h.first first ∙ ap (λ (q : List ℕ). Some q) (sym h.again) in
+      record {
+        place = at.place;
+        form = at.form;
+        here = at.here ∙ ap (λ (m : ℕ). Some (record { line = m; form = at.form })) h.line;
+        fails = subst (λ (f : PlanLine). FailsPlanLine part at.place f 43) (sym form.2) (inl (refl, or_second (has_native (load_lines part h.second.name)) (is_some (place_of h.second.name (loads_shadowed before))) (place_some h.second.name (loads_shadowed before) h.earlier name)));
+      }
 
   to_44 : (n : ℕ) → RestartsTooOften whole n → InPlan n 44
   to_44 n h = at_line n 44 (plan.Shadow h.name h.load h.restarts) h.line (inr (refl, lt-ltb 16 h.restarts h.many))
 
-  to_45 : (n : ℕ) → HasDeviceTwice whole n → InPlan n 45
+  to_45 : (n : ℕ) → GivenTwice (given_by device_given p.lines) n → InPlan n 45
   to_45 n h =
-      let before = take h.line.place p.lines in
-      let there = get_take p.lines h.line.place h.earlier (record { line = h.number; form = plan.Device h.other h.others }) h.before h.there in
-      let place = given_before device_given before h.earlier in
-      let within = get_within (given_by device_given before) place (given h.number h.other) (given_here device_given before h.earlier h.number (plan.Device h.other h.others) h.other there refl) in
-      at_line n 45 (plan.Device h.load h.blocks) h.line (inl (refl, lt-ltb 0 (given_before device_given p.lines h.line.place) (omega (arith, within))))
+      let at = given_at device_given p.lines h.place h.second h.here in
+      let form = device_one at.form at.index h.second.name at.name in
+      record {
+        place = at.place;
+        form = at.form;
+        here = at.here ∙ ap (λ (m : ℕ). Some (record { line = m; form = at.form })) h.line;
+        fails = subst (λ (f : PlanLine). FailsPlanLine part at.place f 45) (sym form.2) (inl (refl, lt-ltb 0 (given_before device_given p.lines at.place) (omega (arith, h.before, at.at, form.3))));
+      }
 
   to_loads : (n : ℕ) → GoesOver 64 (given_by load_given p.lines) n → InPlan n 46
   to_loads n h =
@@ -125,9 +132,9 @@ module _ (idl : Idl) (domains : List Domain) (p : Plan) (c : Clients) where
 
   to_commands : (n : ℕ) → HasTooManyCommands whole n → FailsIn c.lines (FailsClientLine c.lines) n 46
   to_commands n h =
-      let at = in_scripts None c.lines h.number h.place h.script (record { line = n; form = h.form }) h.client h.here in
+      let at = in_scripts None c.lines h.command.number h.command.place h.command.script (record { line = n; form = h.command.form }) h.command.client h.command.here in
       let full : is_full (commands_before c.lines at.place) ≡ true = ap is_full at.count ∙ le-leb 1000 at.commands (omega (arith, h.over, at.least)) in
-      record { place = at.place; form = h.form; here = at.here; fails = (refl, over (given_before client_given c.lines at.place) (commands_before c.lines at.place) h.form full at.goes) } where
+      record { place = at.place; form = h.command.form; here = at.here; fails = (refl, over (given_before client_given c.lines at.place) (commands_before c.lines at.place) h.command.form full at.goes) } where
         over : (clients : ℕ) (commands : Option ℕ) (form : ClientLine) → is_full commands ≡ true → Rattle.plan_checker.proofs.Scripts.Goes form → is_over_in_clients clients commands form ≡ true
         over clients commands (client.Client name) full goes = or_second (nat_le 16 clients) (is_full commands) full
         over clients commands (client.Let name ty values) full goes = full
@@ -155,7 +162,7 @@ module _ (idl : Idl) (domains : List Domain) (p : Plan) (c : Clients) where
       })
 
   to_words : (n : ℕ) → HasTooManyWords whole n → FailsDomains domains n 46
-  to_words n h = in_domain n h.domain.place h.lines h.domain.here (record { place = h.place; form = line.Words h.words; here = h.here; fails = (refl, lt-ltb 4096 h.words h.many) })
+  to_words n h = in_domain n h.domain.place h.lines h.domain.here (record { place = h.line.place; form = line.Words h.words; here = h.line.here; fails = (refl, lt-ltb 4096 h.words h.many) })
 
   to_fuel : (n : ℕ) → HasOtherFuel whole n → InPlan n 46
   to_fuel n h = at_line n 46 (plan.Fuel h.fuel) h.line (inr (refl, outside_test 1 1000000 h.fuel h.outside))

@@ -1,17 +1,16 @@
 -- What names of the plan lead to.
-use Rattle.std.specs.Prelude.{ℕ, List, [], ◌∷◌, map, Option, Some, None, slice_get}
+use Rattle.std.specs.Prelude.{ℕ, List, [], ◌∷◌, map, Option, slice_get}
 use Rattle.std.specs.List.{flat_map}
+use Rattle.std.specs.Option.{option_and_then}
 use Rattle.rl_defs.specs.declared.bundle.Numbered.{Numbered}
 use Rattle.rl_defs.specs.declared.bundle.PlanLine.{PlanLine}
 use Rattle.rl_defs.specs.declared.bundle.PlanLine.TheVariants as plan
 use Rattle.rl_defs.specs.declared.bundle.Bundle.{Bundle}
 use Rattle.rl_defs.specs.DomainValue.{Domain}
 use Rattle.rl_defs.specs.Interfaces.{place_of}
-use Rattle.rl_defs.specs.Domains.{Lines}
-use Rattle.rl_defs.specs.BundleNames.{load_names, domain_of_load, lines_of_domain}
+use Rattle.rl_defs.specs.BundleNames.{given_by, names_of, shadowed, shadow_names, load_names, load_behind}
 use Rattle.rl_defs.specs.BundleOrder.{text_of}
-use Rattle.rl_defs.specs.PlanRules.{load_of_target}
-use Rattle.rl_defs.specs.Standing.{bound_in}
+use Rattle.rl_defs.specs.LoadOf.{bound_in}
 
 abbrev pub PlanLines : Type 0
 PlanLines = List (Numbered PlanLine)
@@ -20,34 +19,14 @@ PlanLines = List (Numbered PlanLine)
 abbrev pub plan_bundle : List Domain → PlanLines → Bundle
 plan_bundle domains lines = record { idl = record { lines = [] }; domains = map text_of domains; plan = record { lines = lines }; clients = record { lines = [] } }
 
--- the lines of the domain of a load
-abbrev pub lines_loaded : Bundle → Option (List ℕ) → Option Lines
-lines_loaded b None = None
-lines_loaded b (Some domain) = lines_of_domain b domain
-
-abbrev pub lines_of_load : Bundle → List ℕ → Option Lines
-lines_of_load b load = lines_loaded b (domain_of_load b load)
-
--- the lines of the domain of a target's load, and the place of that load
-abbrev pub lines_of_named : Bundle → Option (List ℕ) → Option Lines
-lines_of_named b None = None
-lines_of_named b (Some load) = lines_of_load b load
-
-abbrev pub lines_of_target : Bundle → List ℕ → Option Lines
-lines_of_target b target = lines_of_named b (load_of_target b target)
-
-abbrev pub place_of_named : Bundle → Option (List ℕ) → Option ℕ
-place_of_named b None = None
-place_of_named b (Some load) = place_of load (load_names b)
+-- the load of a shadow, and the place of a target's load
+abbrev pub load_of_shadow : Bundle → List ℕ → Option (List ℕ)
+load_of_shadow b target = option_and_then (slice_get (names_of (given_by shadowed b.plan.lines))) (place_of target (shadow_names b))
 
 abbrev pub place_of_target : Bundle → List ℕ → Option ℕ
-place_of_target b target = place_of_named b (load_of_target b target)
+place_of_target b target = option_and_then (λ load. place_of load (load_names b)) (load_behind b target)
 
--- the load of a shadow, and that of a `bind`
-abbrev pub shadowed : PlanLine → List (List ℕ)
-shadowed (plan.Shadow name load restarts) = load ∷ []
-shadowed _ = []
-
+-- the load of a `bind`
 abbrev pub binding : PlanLine → List (List ℕ)
 binding (plan.Bind load import target) = load ∷ []
 binding _ = []

@@ -1,5 +1,5 @@
 -- The rules 40 to 46 at one line of the plan, as tests.
-use Rattle.std.specs.Prelude.{ℕ, Bool, false, ◌||◌, not, nat_eq, nat_le, nat_lt, is_some, is_none, List, [], ◌∷◌, take, Option, Some, None}
+use Rattle.std.specs.Prelude.{ℕ, Bool, false, ◌||◌, not, nat_eq, nat_le, nat_lt, is_some, is_none, List, take, Option, Some, None}
 use Rattle.std.specs.List.{list_any}
 use Rattle.std.specs.Cmp.Lexicographic.{pointwise}
 use Rattle.rl_defs.specs.declared.bundle.PlanLine.{PlanLine}
@@ -8,9 +8,9 @@ use Rattle.rl_defs.specs.declared.bundle.Bundle.{Bundle}
 use Rattle.rl_defs.specs.Interfaces.{place_of}
 use Rattle.rl_defs.specs.Domains.{Lines, trait_name, is_native}
 use Rattle.rl_defs.specs.CodeNames.{imports, place_in, type_at}
-use Rattle.rl_defs.specs.BundleNames.{given_by, names_of, load_given, load_names, lines_of_domain}
+use Rattle.rl_defs.specs.BundleNames.{given_by, names_of, load_given, load_names, lines_of_domain, load_lines, target_lines, shadowed, device_given}
 use Rattle.plan_checker.specs.LineScan.{FailsOneOf, lowest_of, given_before}
-use Rattle.plan_checker.specs.Lookups.{PlanLines, lines_of_load, lines_of_target, place_of_target, shadowed, bound_at}
+use Rattle.plan_checker.specs.Lookups.{PlanLines, place_of_target, bound_at}
 
 -- rule 40: an import of the domain has no `bind`
 abbrev pub has_unbound : PlanLines → List ℕ → Option Lines → Bool
@@ -29,7 +29,7 @@ differs (Some binds) import (Some target) = is_other_trait binds import target
 differs _ import _ = false
 
 abbrev pub has_other_trait : Bundle → List ℕ → List ℕ → List ℕ → Bool
-has_other_trait b load import target = differs (lines_of_load b load) import (lines_of_target b target)
+has_other_trait b load import target = differs (load_lines b load) import (target_lines b target)
 
 -- rule 42: the target's load isn't before the binding load
 abbrev pub is_behind : Option ℕ → Option ℕ → Bool
@@ -48,15 +48,11 @@ abbrev pub loads_shadowed : PlanLines → List (List ℕ)
 loads_shadowed lines = names_of (given_by shadowed lines)
 
 abbrev pub is_badly_shadowed : Bundle → ℕ → List ℕ → Bool
-is_badly_shadowed b place load = has_native (lines_of_load b load) || is_some (place_of load (loads_shadowed (take place b.plan.lines)))
+is_badly_shadowed b place load = has_native (load_lines b load) || is_some (place_of load (loads_shadowed (take place b.plan.lines)))
 
 -- rule 46: a number is below the least or above the most
 abbrev pub is_outside : ℕ → ℕ → ℕ → Bool
 is_outside least most n = nat_lt n least || nat_lt most n
-
-abbrev pub device_given : PlanLine → List (List ℕ)
-device_given (plan.Device load blocks) = load ∷ []
-device_given _ = []
 
 -- which rules fail at the line of this form
 abbrev pub FailsPlanLine : Bundle → ℕ → PlanLine → ℕ → Type 0
@@ -72,7 +68,7 @@ FailsPlanLine b place (plan.Order clients) = FailsOneOf false 46 false 46
 abbrev pub lowest_at : Bundle → ℕ → List (List ℕ) → ℕ → PlanLine → Option ℕ
 lowest_at b loads shadowed_before devices (plan.Load name domain) = lowest_of (is_unbound b name domain) 40 (nat_le 64 loads) 46
 lowest_at b loads shadowed_before devices (plan.Bind load import target) = lowest_of (has_other_trait b load import target) 41 (is_bound_backwards b load target) 42
-lowest_at b loads shadowed_before devices (plan.Shadow name load restarts) = lowest_of (has_native (lines_of_load b load) || is_some (place_of load shadowed_before)) 43 (nat_lt 16 restarts) 44
+lowest_at b loads shadowed_before devices (plan.Shadow name load restarts) = lowest_of (has_native (load_lines b load) || is_some (place_of load shadowed_before)) 43 (nat_lt 16 restarts) 44
 lowest_at b loads shadowed_before devices (plan.Device load blocks) = lowest_of (nat_lt 0 devices) 45 (is_outside 1 4096 blocks) 46
 lowest_at b loads shadowed_before devices (plan.Serial load) = lowest_of false 46 false 46
 lowest_at b loads shadowed_before devices (plan.Fuel n) = lowest_of false 46 (is_outside 1 1000000 n) 46

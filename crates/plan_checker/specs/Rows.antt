@@ -3,7 +3,7 @@ use Rattle.std.specs.Prelude.{◌≡◌, ℕ, ◌≤◌, List, [], map, Some, sl
 use Rattle.rl_defs.specs.declared.bundle.PlanLine.{PlanLine}
 use Rattle.rl_defs.specs.declared.bundle.Bundle.{Bundle}
 use Rattle.rl_defs.specs.declared.bundle.PlanLine.TheVariants as plan
-use Rattle.rl_defs.specs.Standing.{number_in, loads_of, shadows_of, order_of, fuel_of, device_of, blocks_of}
+use Rattle.rl_defs.specs.LoadOf.{number_in, loads_of, shadows_of, order_of, fuel_of, device_of, blocks_of}
 use Rattle.plan_checker.specs.declared.rows.PlanRows.{PlanRows}
 use Rattle.rl_defs.specs.declared.LoadFault.{LoadFault}
 use Rattle.rl_defs.specs.declared.LoadFault.TheVariants.{Refused, Memory}

@@ -4,11 +4,10 @@ use Rattle.rl_defs.specs.Words.{same_bytes}
 use Rattle.std.specs.Cmp.Lexicographic.{pointwise}
 use Rattle.rl_defs.specs.declared.bundle.Bundle.{Bundle}
 use Rattle.rl_defs.specs.Domains.{Lines}
-use Rattle.rl_defs.specs.BundleNames.{given_by, names_of, load_names, domains_loaded, serial_given}
-use Rattle.rl_defs.specs.Standing.{shadow_names}
+use Rattle.rl_defs.specs.BundleNames.{given_by, names_of, load_names, domains_loaded, serial_given, shadow_names, shadowed}
 use Rattle.plan_checker.specs.Facts.{AreNames}
 use Rattle.plan_checker.specs.Loaded.{AreLoaded}
-use Rattle.plan_checker.specs.Lookups.{shadowed, binding, bound_at}
+use Rattle.plan_checker.specs.Lookups.{binding, bound_at}
 
 -- two pairs of names are the same
 abbrev pub same_pair : (List ℕ) × (List ℕ) → (List ℕ) × (List ℕ) → Bool

@@ -3,7 +3,7 @@ ghost use Rattle.rl_defs.specs.declared.idl.Idl.{Idl as Part};
 ghost use Rattle.rl_defs.specs.Refusals.{Answers};
 ghost use Rattle.rl_defs.specs.BundleOrder.{bundle_of};
 ghost use Rattle.rl_defs.specs.PlanRules.{FailsPlanRules};
-ghost use Rattle.rl_defs.specs.Acceptance.{HasNames};
+ghost use Rattle.rl_defs.specs.EarlierRules.{HasNames};
 ghost use Rattle.plan_checker.specs.Parts.{PartsRise, FailsParts};
 ghost use Rattle.plan_checker.specs.Rows.{AreRowsOf, AnswersParts};
 
@@ -27,12 +27,8 @@ fn check_parts(
     requires { PartsRise domains.now tables.now.plan.lines clients.now }
     ensures { Answers (FailsParts domains.now tables.now clients.now) (λ _. Unit {0}) result }
 {
-    if let Err(fault) = check_domains(domains) {
-        return Err(fault);
-    }
-    if let Err(fault) = check_lines(alloc, tables) {
-        return Err(fault);
-    }
+    check_domains(domains)?;
+    check_lines(alloc, tables)?;
     check_clients(clients)
 }
 
@@ -46,17 +42,9 @@ fn rows_by_parts(
     requires { PartsRise domains.now lines.now clients.now }
     ensures { AnswersParts domains.now lines.now clients.now result }
 {
-    let Ok(tables) = PlanTables::new(alloc, domains, lines) else {
-        return Err(LoadFault::Memory);
-    };
-    match check_parts(alloc, domains, &tables, clients) {
-        Ok(()) => {}
-        Err(fault) => return Err(fault),
-    }
-    match rows_of(alloc, &tables, clients) {
-        Ok(rows) => Ok(rows),
-        Err(_) => Err(LoadFault::Memory),
-    }
+    let tables = PlanTables::new(alloc, domains, lines)?;
+    check_parts(alloc, domains, &tables, clients)?;
+    Ok(rows_of(alloc, &tables, clients)?)
 }
 
 /// The rows that a plan stands for, or the first line of the bundle that one of the rules 40 to 46 refuses, with the lowest of these rules

@@ -1,8 +1,8 @@
 //! What the plan looks at in a domain.
 ghost use Rattle.std.specs.Prelude.{◌≡◌, ℕ, ◌^◌, ◌<◌, ◌≤◌, ◌∷◌, ◌++◌, [], List as Items, length, drop, not, nat_eq, IsTrue, OnOk, IfOk};
 ghost use Rattle.std.specs.Cmp.Lexicographic.{pointwise};
-ghost use Rattle.rl_defs.specs.CodeFits.{KeepsRules};
-ghost use Rattle.rl_defs.specs.Domains.{trait_name, is_native, names_native};
+ghost use Rattle.rl_defs.specs.CodeRules.{KeepsRules};
+ghost use Rattle.rl_defs.specs.Domains.{trait_name, is_native};
 ghost use Rattle.rl_defs.specs.CodeNames.{imports, place_in, type_at};
 ghost use Rattle.rl_defs.specs.BundleNames.{given_by, names_of, domain_given};
 ghost use Rattle.rl_defs.specs.Words.{is_name};
@@ -10,13 +10,13 @@ ghost use Rattle.plan_checker.specs.Facts.{import_names, import_traits};
 ghost use Rattle.plan_checker.specs.PlanTests.{is_other_trait};
 
 use name_tables::names::Names;
-use rl_defs::Memory;
 use rl_defs::bundle::Numbered;
 use rl_defs::checked::CheckedDomain;
 use rl_defs::code::DomainLine;
 use rl_defs::list::List;
+use rl_defs::lookups::is_native;
 use rl_defs::name::Name;
-use std::alloc::Global;
+use std::alloc::{AllocError, Global};
 use std::marker::Model;
 
 // The imports of a domain: the places of their names, the names, and the names of their traits.
@@ -72,7 +72,7 @@ pub fn head(domain: &CheckedDomain) -> Begin
     }
 }
 
-fn put(imports: &mut Imports, name: &Name, has: &Name) -> Result<(), Memory>
+fn put(imports: &mut Imports, name: &Name, has: &Name) -> Result<(), AllocError>
     requires { length imports.old.places < 2 ^ 31 }
     ensures places { OnOk result (imports.new.places ≡ imports.old.places ++ name.now ∷ []) }
     ensures names { OnOk result (imports.new.names ≡ imports.old.names ++ name.now ∷ []) }
@@ -83,7 +83,7 @@ fn put(imports: &mut Imports, name: &Name, has: &Name) -> Result<(), Memory>
     imports.traits.push(*has)
 }
 
-fn imports_of(alloc: Global, lines: &[Numbered<DomainLine>]) -> Result<Imports, Memory>
+fn imports_of(alloc: Global, lines: &[Numbered<DomainLine>]) -> Result<Imports, AllocError>
     requires { length lines.now < 2 ^ 31 }
     ensures places { IfOk result (λ i. i.places ≡ import_names lines.now) }
     ensures names { IfOk result (λ i. i.names ≡ import_names lines.now) }
@@ -102,21 +102,9 @@ fn imports_of(alloc: Global, lines: &[Numbered<DomainLine>]) -> Result<Imports, 
     Ok(imports)
 }
 
-fn names_native(form: &DomainLine) -> bool
-    ensures { result ≡ names_native form.now }
-{
-    matches!(form, DomainLine::Native(_))
-}
-
-fn is_native(lines: &[Numbered<DomainLine>]) -> bool
-    ensures { result ≡ is_native lines.now }
-{
-    lines.iter().any(|line| names_native(&line.form))
-}
-
 impl<'a> DomainFacts<'a> {
     /// What the plan looks at in this domain.
-    pub fn new(alloc: Global, domain: &'a CheckedDomain) -> Result<DomainFacts<'a>, Memory>
+    pub fn new(alloc: Global, domain: &'a CheckedDomain) -> Result<DomainFacts<'a>, AllocError>
         ensures { IfOk result (λ d. d ≡ domain.now.lines) }
     {
         let head = head(domain);

@@ -1,15 +1,14 @@
 //! Rule 46 in the domains and in the clients.
 ghost use Rattle.std.specs.Prelude.{◌≡◌, ℕ, ◌+◌, ◌^◌, ◌<◌, ◌≤◌, length};
-ghost use Rattle.rl_defs.specs.declared.LoadFault.TheVariants.{Refused};
 ghost use Rattle.rl_defs.specs.Refusals.{Answers};
 ghost use Rattle.rl_defs.specs.BundleNames.{slot_given, client_given};
 ghost use Rattle.plan_checker.specs.LineScan.{LinesRise, FailsIn};
 ghost use Rattle.plan_checker.specs.Limits.{is_over_in_domain, is_full, is_over_in_clients, commands_behind, AreFew, FailsDomainLine, FailsDomains, FailsClientLine, DomainsRise};
 
+use rl_defs::LoadFault;
 use rl_defs::bundle::{ClientLine, Numbered};
 use rl_defs::checked::CheckedDomain;
 use rl_defs::code::DomainLine;
-use rl_defs::{LoadFault, Refusal};
 
 /// The most words of a domain.
 pub const MOST_WORDS: u64 = 4_096;
@@ -19,13 +18,6 @@ pub const MOST_SLOTS: usize = 64;
 pub const MOST_CLIENTS: usize = 16;
 /// The most commands of a client.
 pub const MOST_COMMANDS: usize = 1_000;
-
-/// The refusal of a line by a rule.
-pub fn refused(line: u32, rule: u8) -> LoadFault
-    ensures { result ≡ Refused (record { line = line; rule = rule }) }
-{
-    LoadFault::Refused(Refusal { line, rule })
-}
 
 // Whether a line of a domain is too much, behind so many slots.
 fn is_over_in_domain(slots: usize, form: &DomainLine) -> bool
@@ -57,7 +49,7 @@ fn check_domain(lines: &[Numbered<DomainLine>]) -> Result<(), LoadFault>
     let mut slots = 0;
     'lines: for line in lines {
         if is_over_in_domain(slots, &line.form) {
-            return Err(refused(line.line, 46));
+            return Err(LoadFault::refused(line.line, 46));
         }
         slots = slots_behind(slots, &line.form);
     }
@@ -70,9 +62,7 @@ pub fn check_domains(domains: &[CheckedDomain]) -> Result<(), LoadFault>
     ensures { Answers (FailsDomains domains.now) (λ _. Unit {0}) result }
 {
     'domains: for domain in domains {
-        if let Err(fault) = check_domain(domain.lines()) {
-            return Err(fault);
-        }
+        check_domain(domain.lines())?;
     }
     Ok(())
 }
@@ -136,7 +126,7 @@ pub fn check_clients(lines: &[Numbered<ClientLine>]) -> Result<(), LoadFault>
     let mut commands = None;
     'lines: for line in lines {
         if is_over_in_clients(clients, commands, &line.form) {
-            return Err(refused(line.line, 46));
+            return Err(LoadFault::refused(line.line, 46));
         }
         clients = clients_behind(clients, &line.form);
         commands = commands_behind(commands, &line.form);

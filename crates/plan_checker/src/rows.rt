@@ -1,20 +1,19 @@
 //! The rows that a plan stands for.
-ghost use Rattle.std.specs.Prelude.{◌≡◌, ℕ, ◌+◌, ◌^◌, ◌<◌, ◌≤◌, ◌∷◌, ◌++◌, [], List as Items, length, map, drop, OnOk, IfOk};
+ghost use Rattle.std.specs.Prelude.{unwrap_or, ◌≡◌, ℕ, ◌+◌, ◌^◌, ◌<◌, ◌≤◌, ◌∷◌, ◌++◌, [], List as Items, length, map, drop, OnOk, IfOk};
 ghost use Rattle.std.specs.List.{flat_map, slice_index_or};
 ghost use Rattle.rl_defs.specs.BundleNames.{given_by, names_of, client_given, lines_of_domain};
-ghost use Rattle.rl_defs.specs.Standing.{loads_in, shadows_in, number_in, fuel_in, device_in, blocks_in, binds_of, target_number, bound_to};
+ghost use Rattle.rl_defs.specs.LoadOf.{loads_in, shadows_in, number_in, fuel_in, device_in, blocks_in, binds_of, target_number, bound_to};
 ghost use Rattle.rl_defs.specs.declared.bundle.PlanLine.TheVariants as plan;
 ghost use Rattle.plan_checker.specs.Loaded.{IsLoaded};
 ghost use Rattle.plan_checker.specs.Rows.{AreRowsOf, AreWithin, order_with};
 
 use crate::tables::PlanTables;
 use name_tables::names::Names;
-use rl_defs::Memory;
 use rl_defs::bundle::{ClientLine, Numbered, PlanLine};
 use rl_defs::list::List;
 use rl_defs::load::{LoadRow, ShadowRow};
 use rl_defs::name::Name;
-use std::alloc::Global;
+use std::alloc::{AllocError, Global};
 
 /// The fuel of each command where the plan has no `fuel` line.
 pub const FUEL: u32 = 10_000;
@@ -47,7 +46,7 @@ fn binds_of(
     tables: &PlanTables,
     load: &Name,
     imports: &[Name],
-) -> Result<List<u32>, Memory>
+) -> Result<List<u32>, AllocError>
     ensures { IfOk result (λ binds. binds ≡ map (λ import. target_number tables.now (bound_to tables.now load.now import)) imports.now) }
 {
     let mut binds = List::new(alloc);
@@ -62,9 +61,9 @@ fn binds_of_load(
     tables: &PlanTables,
     load: &Name,
     domain: &Name,
-) -> Result<List<u32>, Memory>
+) -> Result<List<u32>, AllocError>
     requires { IsLoaded tables.now domain.now }
-    ensures { IfOk result (λ binds. binds ≡ binds_of tables.now load.now (lines_of_domain tables.now domain.now)) }
+    ensures { IfOk result (λ binds. binds ≡ binds_of tables.now load.now (unwrap_or (lines_of_domain tables.now domain.now) [])) }
 {
     match tables.domain(domain) {
         Some(facts) => binds_of(alloc, tables, load, facts.imports()),
@@ -77,7 +76,7 @@ fn load_row(
     tables: &PlanTables,
     name: &Name,
     domain: &Name,
-) -> Result<LoadRow, Memory>
+) -> Result<LoadRow, AllocError>
     requires { IsLoaded tables.now domain.now }
     ensures { IfOk result (λ row. row ∷ [] ≡ loads_in tables.now (plan.Load name.now domain.now)) }
 {
@@ -94,7 +93,7 @@ fn load_rows(
     alloc: Global,
     tables: &PlanTables,
     lines: &[Numbered<PlanLine>],
-) -> Result<List<LoadRow>, Memory>
+) -> Result<List<LoadRow>, AllocError>
     requires { lines.now ≡ tables.now.plan.lines }
     ensures { IfOk result (λ rows. rows ≡ flat_map (λ l. loads_in tables.now l.form) lines.now) }
 {
@@ -112,7 +111,7 @@ fn shadow_rows(
     alloc: Global,
     tables: &PlanTables,
     lines: &[Numbered<PlanLine>],
-) -> Result<List<ShadowRow>, Memory>
+) -> Result<List<ShadowRow>, AllocError>
     requires { AreWithin lines.now }
     ensures { IfOk result (λ rows. rows ≡ flat_map (λ l. shadows_in tables.now l.form) lines.now) }
 {
@@ -164,7 +163,7 @@ fn device_of(tables: &PlanTables, lines: &[Numbered<PlanLine>]) -> DeviceRow
 }
 
 /// The names of the clients.
-pub fn client_names(alloc: Global, lines: &[Numbered<ClientLine>]) -> Result<Names, Memory>
+pub fn client_names(alloc: Global, lines: &[Numbered<ClientLine>]) -> Result<Names, AllocError>
     requires { length lines.now < 2 ^ 31 }
     ensures names { IfOk result (λ n. n ≡ names_of (given_by client_given lines.now)) }
     ensures few { IfOk result (λ n. length n < 2 ^ 31) }
@@ -189,7 +188,7 @@ fn number_in(names: &Names, name: &Name) -> u32
 }
 
 // Puts the numbers of clients last.
-fn put_clients(order: &mut List<u32>, clients: &Names, names: &[Name]) -> Result<(), Memory>
+fn put_clients(order: &mut List<u32>, clients: &Names, names: &[Name]) -> Result<(), AllocError>
     requires { length clients.now < 2 ^ 31 }
     ensures { OnOk result (order.new ≡ order.old ++ map (λ name. number_in name clients.now) names.now) }
 {
@@ -203,7 +202,7 @@ fn order_rows(
     alloc: Global,
     lines: &[Numbered<PlanLine>],
     clients: &Names,
-) -> Result<List<u32>, Memory>
+) -> Result<List<u32>, AllocError>
     requires { length clients.now < 2 ^ 31 }
     ensures { IfOk result (λ order. order ≡ flat_map (λ l. order_with clients.now l.form) lines.now) }
 {
@@ -221,7 +220,7 @@ pub fn rows_of(
     alloc: Global,
     tables: &PlanTables,
     clients: &[Numbered<ClientLine>],
-) -> Result<PlanRows, Memory>
+) -> Result<PlanRows, AllocError>
     requires within { AreWithin tables.now.plan.lines }
     requires few { length clients.now < 2 ^ 31 }
     ensures { IfOk result (AreRowsOf (record { idl = tables.now.idl; domains = tables.now.domains; plan = tables.now.plan; clients = record { lines = clients.now } })) }

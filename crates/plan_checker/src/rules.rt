@@ -2,18 +2,17 @@
 ghost use Rattle.std.specs.Prelude.{◌≡◌, ℕ, ◌+◌, ◌^◌, ◌<◌, ◌∷◌, ◌++◌, [], length, is_some, is_none, ◌||◌, nat_le, nat_lt, OnOk};
 ghost use Rattle.std.specs.List.{list_any};
 ghost use Rattle.rl_defs.specs.Interfaces.{place_of};
-ghost use Rattle.rl_defs.specs.BundleNames.{load_given, lines_of_domain};
+ghost use Rattle.rl_defs.specs.BundleNames.{load_given, lines_of_domain, load_lines, shadowed, device_given};
 ghost use Rattle.plan_checker.specs.LineScan.{lowest_of, IsSmallStep};
 ghost use Rattle.plan_checker.specs.Loaded.{IsLoaded, LoadsLoaded};
-ghost use Rattle.plan_checker.specs.Lookups.{lines_of_load, shadowed, bound_at};
-ghost use Rattle.plan_checker.specs.PlanTests.{is_unbound, has_other_trait, is_bound_backwards, has_native, is_outside, device_given, lowest_at};
+ghost use Rattle.plan_checker.specs.Lookups.{bound_at};
+ghost use Rattle.plan_checker.specs.PlanTests.{is_unbound, has_other_trait, is_bound_backwards, has_native, is_outside, lowest_at};
 
 use crate::tables::PlanTables;
 use name_tables::names::Names;
-use rl_defs::Memory;
 use rl_defs::bundle::PlanLine;
 use rl_defs::name::Name;
-use std::alloc::Global;
+use std::alloc::{AllocError, Global};
 
 /// The most loads of a bundle.
 pub const MOST_LOADS: usize = 64;
@@ -47,7 +46,7 @@ impl Seen {
     }
 
     /// Takes in what one more line gives.
-    pub fn add(&mut self, form: &PlanLine) -> Result<(), Memory>
+    pub fn add(&mut self, form: &PlanLine) -> Result<(), AllocError>
         requires loads { self.old.loads < 2 ^ 31 }
         requires shadowed { length self.old.shadowed < 2 ^ 31 }
         requires devices { self.old.devices < 2 ^ 31 }
@@ -124,7 +123,7 @@ fn is_bound_backwards(tables: &PlanTables, load: &Name, target: &Name) -> bool
 }
 
 fn has_native(tables: &PlanTables, load: &Name) -> bool
-    ensures { result ≡ has_native (lines_of_load tables.now load.now) }
+    ensures { result ≡ has_native (load_lines tables.now load.now) }
 {
     match tables.facts_of_load(load) {
         Some(facts) => facts.is_native(),
@@ -134,7 +133,7 @@ fn has_native(tables: &PlanTables, load: &Name) -> bool
 
 // Whether a load is native, or has a shadow.
 fn is_badly_shadowed(tables: &PlanTables, shadowed: &Names, load: &Name) -> bool
-    ensures { result ≡ (has_native (lines_of_load tables.now load.now) || is_some (place_of load.now shadowed.now)) }
+    ensures { result ≡ (has_native (load_lines tables.now load.now) || is_some (place_of load.now shadowed.now)) }
 {
     has_native(tables, load) || shadowed.place(load).is_some()
 }

@@ -4,7 +4,6 @@ ghost use Rattle.rl_defs.specs.Refusals.{Answers};
 ghost use Rattle.plan_checker.specs.LineScan.{LinesRise, FailsIn};
 ghost use Rattle.plan_checker.specs.PlanTests.{FailsPlanLine};
 
-use crate::limits::refused;
 use crate::rules::{Seen, rule_of};
 use crate::tables::PlanTables;
 use rl_defs::LoadFault;
@@ -20,11 +19,9 @@ pub fn check_lines(alloc: Global, tables: &PlanTables) -> Result<(), LoadFault>
     let lines = tables.lines();
     'lines: for line in lines {
         if let Some(rule) = rule_of(tables, &seen, &line.form) {
-            return Err(refused(line.line, rule));
+            return Err(LoadFault::refused(line.line, rule));
         }
-        let Ok(_) = seen.add(&line.form) else {
-            return Err(LoadFault::Memory);
-        };
+        let _ = seen.add(&line.form)?;
     }
     Ok(())
 }

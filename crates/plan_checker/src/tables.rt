@@ -4,22 +4,20 @@ ghost use Rattle.std.specs.Option.{option_copied};
 ghost use Rattle.std.specs.List.{flat_map};
 ghost use Rattle.rl_defs.specs.Interfaces.{place_of};
 ghost use Rattle.rl_defs.specs.DomainValue.{Domain};
-ghost use Rattle.rl_defs.specs.BundleNames.{given_by, names_of, domain_names, domains_loaded, load_names, lines_of_domain, domain_of_load};
-ghost use Rattle.rl_defs.specs.PlanRules.{load_of_target, load_of_shadow};
-ghost use Rattle.rl_defs.specs.Standing.{load_number, target_number, is_serial_in, bound_to};
+ghost use Rattle.rl_defs.specs.BundleNames.{given_by, names_of, domain_names, domains_loaded, load_names, lines_of_domain, domain_of_load, load_behind, load_lines, target_lines};
+ghost use Rattle.rl_defs.specs.LoadOf.{load_number, target_number, is_serial_in, bound_to};
 ghost use Rattle.plan_checker.specs.Facts.{HasLoadNames};
 ghost use Rattle.plan_checker.specs.Loaded.{IsLoaded, AreLoaded, IsPut};
-ghost use Rattle.plan_checker.specs.Lookups.{PlanLines, plan_bundle, lines_of_load, lines_of_target, place_of_target, bound_at};
+ghost use Rattle.plan_checker.specs.Lookups.{PlanLines, plan_bundle, place_of_target, bound_at, load_of_shadow};
 
 use crate::facts::{DomainFacts, head};
 use crate::pairs::{Binds, Pairs, binds_of, loaded_of, loads_of, serial_of, shadows_of};
 use name_tables::names::Names;
-use rl_defs::Memory;
 use rl_defs::bundle::{Numbered, PlanLine};
 use rl_defs::checked::CheckedDomain;
 use rl_defs::list::List;
 use rl_defs::name::Name;
-use std::alloc::Global;
+use std::alloc::{AllocError, Global};
 use std::marker::Model;
 
 // The domains that the plan loads, by their names: the number of each among all domains, and what the plan looks at in it. A bundle may
@@ -63,7 +61,7 @@ fn put<'a>(
     loaded: &Names,
     number: u32,
     domain: &'a CheckedDomain,
-) -> Result<(), Memory>
+) -> Result<(), AllocError>
     requires { length domains.old.names < 2 ^ 31 }
     ensures { OnOk result (IsPut loaded.now domain.now.lines number domains.old.names domains.new.names domains.old.numbers domains.new.numbers domains.old.facts domains.new.facts) }
 {
@@ -83,7 +81,7 @@ fn domains_of<'a>(
     alloc: Global,
     loaded: &Names,
     domains: &'a [CheckedDomain],
-) -> Result<Domains<'a>, Memory>
+) -> Result<Domains<'a>, AllocError>
     requires { length domains.now < 2 ^ 31 }
     ensures { IfOk result (λ d. (lines : PlanLines) → loaded.now ≡ names_of (given_by domains_loaded lines) → AreLoaded (plan_bundle domains.now lines) d.names d.numbers d.facts) }
 {
@@ -104,7 +102,7 @@ impl<'a> PlanTables<'a> {
         alloc: Global,
         domains: &'a [CheckedDomain],
         lines: &'a [Numbered<PlanLine>],
-    ) -> Result<PlanTables<'a>, Memory>
+    ) -> Result<PlanTables<'a>, AllocError>
         requires domains { length domains.now < 2 ^ 31 }
         requires lines { length lines.now < 2 ^ 31 }
         ensures value { IfOk result (λ t. t ≡ plan_bundle domains.now lines.now) }
@@ -176,7 +174,7 @@ impl<'a> PlanTables<'a> {
 
     /// The domain of a load.
     pub fn facts_of_load(&self, load: &Name) -> Option<&DomainFacts<'a>>
-        ensures { option_copied result ≡ lines_of_load self.now load.now }
+        ensures { option_copied result ≡ load_lines self.now load.now }
     {
         match self.domain_of_load(load) {
             Some(domain) => self.domain(domain),
@@ -185,7 +183,7 @@ impl<'a> PlanTables<'a> {
     }
 
     fn load_of_shadow(&self, target: &Name) -> Option<Name>
-        ensures { result ≡ load_of_shadow self.now.plan.lines target.now }
+        ensures { result ≡ load_of_shadow self.now target.now }
     {
         match self.shadows.names.place(target) {
             Some(place) => self.shadows.others.get(place as usize).copied(),
@@ -195,7 +193,7 @@ impl<'a> PlanTables<'a> {
 
     // The load of a target: a load is its own, and a shadow has the one that it stands for.
     fn load_of_target(&self, target: &Name) -> Option<Name>
-        ensures { result ≡ load_of_target self.now target.now }
+        ensures { result ≡ load_behind self.now target.now }
     {
         match self.load_place(target) {
             Some(_) => Some(*target),
@@ -205,7 +203,7 @@ impl<'a> PlanTables<'a> {
 
     /// The domain of a target's load.
     pub fn facts_of_target(&self, target: &Name) -> Option<&DomainFacts<'a>>
-        ensures { option_copied result ≡ lines_of_target self.now target.now }
+        ensures { option_copied result ≡ target_lines self.now target.now }
     {
         match self.load_of_target(target) {
             Some(load) => self.facts_of_load(&load),

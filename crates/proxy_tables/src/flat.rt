@@ -6,14 +6,11 @@ ghost use Rattle.rl_defs.specs.Flattening.{Flattens};
 ghost use Rattle.proxy_tables.specs.Rules.{KnowsRows};
 ghost use Rattle.exchangeable_types.specs.Capped.{CellsOf};
 
-use exchangeable_types::cells::{Cells, put};
-use exchangeable_types::part::Part;
-use exchangeable_types::types::{kind_held, struct_held, times};
-use rl_defs::Memory;
+use exchangeable_types::{Cells, Part, kind_held, put, struct_held, times};
 use rl_defs::idl::{Param, TypeText};
 use rl_defs::list::List;
 use rl_defs::tables::{Kind, StructRow};
-use std::alloc::Global;
+use std::alloc::{AllocError, Global};
 
 /// The cells with those of one type more behind them, up to a limit.
 pub fn put_type(
@@ -22,10 +19,11 @@ pub fn put_type(
     limit: usize,
     cells: Cells,
     ty: &TypeText,
-) -> Result<Cells, Memory>
+) -> Result<Cells, AllocError>
     requires rows { KnowsRows part.now.lines.now structs.now }
     requires low { limit ≤ 512 }
-    ensures { IfOk result (λ more. (passed : Items Written) → CellsOf part.now.lines.now limit passed cells → CellsOf part.now.lines.now limit (passed ++ ty.now ∷ []) more) }
+    ensures { IfOk result (λ more. (passed : Items Written) → CellsOf part.now.lines.now limit passed cells
+        → CellsOf part.now.lines.now limit (passed ++ ty.now ∷ []) more) }
 {
     let times = times(ty.wraps.as_slice());
     if let Some(held) = struct_held(part, ty) {
@@ -57,7 +55,7 @@ pub fn put_types(
     structs: &List<StructRow>,
     limit: usize,
     types: &[TypeText],
-) -> Result<Cells, Memory>
+) -> Result<Cells, AllocError>
     requires rows { KnowsRows part.now.lines.now structs.now }
     requires low { limit ≤ 512 }
     ensures { IfOk result (CellsOf part.now.lines.now limit types.now) }
@@ -76,7 +74,7 @@ pub fn put_params(
     structs: &List<StructRow>,
     limit: usize,
     params: &[Param],
-) -> Result<Cells, Memory>
+) -> Result<Cells, AllocError>
     requires rows { KnowsRows part.now.lines.now structs.now }
     requires low { limit ≤ 512 }
     ensures { IfOk result (CellsOf part.now.lines.now limit (param_types params.now)) }

@@ -2,11 +2,14 @@
 //! 3.1: proxies).
 #![tactic(auto)]
 
-pub mod build;
-pub mod flat;
+mod flat;
 pub mod laws;
-pub mod method;
-pub mod rules;
-pub mod scan;
+mod names;
+mod rows;
+mod rules;
+mod scan;
 #[cfg(test)]
 mod tests;
+
+pub use names::method;
+pub use rows::build;

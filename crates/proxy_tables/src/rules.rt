@@ -7,14 +7,11 @@ ghost use Rattle.rl_defs.specs.MethodRules.{is_rpc};
 ghost use Rattle.proxy_tables.specs.Rules.{KnowsRows, Moves, IsLowest, IsExceeding, IsMovedAgain, is_own, is_many};
 
 use crate::flat::{put_params, put_types, row_flat};
-use exchangeable_types::cells::Cells;
-use exchangeable_types::part::Part;
-use exchangeable_types::types::{is_lent, kind_held, result_types, struct_held, times};
-use rl_defs::Memory;
+use exchangeable_types::{Cells, Part, is_lent, kind_held, result_types, struct_held, times};
 use rl_defs::idl::{Param, ResultText, TypeText};
 use rl_defs::list::List;
 use rl_defs::tables::{Kind, StructRow};
-use std::alloc::Global;
+use std::alloc::{AllocError, Global};
 
 fn is_rpc(outcome: &ResultText) -> bool
     ensures { result ≡ is_rpc outcome.now }
@@ -94,7 +91,7 @@ fn exceeds(
     structs: &List<StructRow>,
     params: &[Param],
     results: &[TypeText],
-) -> Result<bool, Memory>
+) -> Result<bool, AllocError>
     requires { KnowsRows part.now.lines.now structs.now }
     ensures { IfOk result (IsExceeding part.now.lines.now (param_types params.now) results.now) }
 {
@@ -114,7 +111,7 @@ pub fn rule_of(
     marked: bool,
     params: &[Param],
     outcome: &ResultText,
-) -> Result<Option<u8>, Memory>
+) -> Result<Option<u8>, AllocError>
     requires { KnowsRows part.now.lines.now structs.now }
     ensures { IfOk result (IsLowest part.now.lines.now marked params.now outcome.now) }
 {

@@ -7,13 +7,12 @@ ghost use Rattle.proxy_tables.specs.Rules.{KnowsRows};
 ghost use Rattle.proxy_tables.specs.Scan.{IsLowestAt, is_mark};
 
 use crate::rules::rule_of;
-use exchangeable_types::part::Part;
-use exchangeable_types::rows::refused;
+use exchangeable_types::Part;
+use rl_defs::LoadFault;
 use rl_defs::idl::{Idl, IdlLine};
 use rl_defs::list::List;
 use rl_defs::tables::StructRow;
-use rl_defs::{LoadFault, Memory};
-use std::alloc::Global;
+use std::alloc::{AllocError, Global};
 
 fn is_mark(line: &IdlLine) -> bool
     ensures { result ≡ is_mark line.now }
@@ -27,7 +26,7 @@ fn rule_at(
     structs: &List<StructRow>,
     marked: bool,
     line: &IdlLine,
-) -> Result<Option<u8>, Memory>
+) -> Result<Option<u8>, AllocError>
     requires { KnowsRows part.now.lines.now structs.now }
     ensures { IfOk result (IsLowestAt part.now.lines.now marked line.now) }
 {
@@ -55,11 +54,9 @@ pub fn check_methods(
 {
     let mut marked = false;
     'lines: for line in idl.lines.as_slice() {
-        let Ok(rule) = rule_at(alloc, part, structs, marked, &line.form) else {
-            return Err(LoadFault::Memory);
-        };
+        let rule = rule_at(alloc, part, structs, marked, &line.form)?;
         if let Some(rule) = rule {
-            return Err(refused(line.line, rule));
+            return Err(LoadFault::refused(line.line, rule));
         }
         marked = is_mark(&line.form);
     }

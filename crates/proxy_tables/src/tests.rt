@@ -1,23 +1,21 @@
 ghost use Rattle.std.specs.Prelude.{◌<◌, ◌^◌, IfOk, length};
 ghost use Rattle.rl_defs.specs.Interfaces.{Rises};
 
-use crate::build::build;
-use crate::method::method;
-use exchangeable_types::check::check_types;
+use crate::{build, method};
+use exchangeable_types::check_types;
+use rl_defs::LoadFault;
 use rl_defs::bundle::Numbered;
 use rl_defs::copies::Copies;
 use rl_defs::idl::{Base, Idl, IdlLine, Param, ResultText, TypeText, Wrap};
 use rl_defs::list::List;
 use rl_defs::name::Name;
-use rl_defs::same::Same;
 use rl_defs::tables::{Kind, Tables, Width};
-use rl_defs::{LoadFault, Memory};
-use std::alloc::Global;
+use std::alloc::{AllocError, Global};
 use std::process::Abort;
 use std::test::Fail;
 
 // The part of these lines, numbered from 2.
-fn part_of(alloc: Global, forms: Vec<IdlLine>) -> Result<Idl, Memory>
+fn part_of(alloc: Global, forms: Vec<IdlLine>) -> Result<Idl, AllocError>
     ensures few { IfOk result (λ idl. length idl.lines < 2 ^ 32) }
     ensures rises { IfOk result (λ idl. Rises idl.lines) }
 {
@@ -25,7 +23,7 @@ fn part_of(alloc: Global, forms: Vec<IdlLine>) -> Result<Idl, Memory>
     let mut number = 2u32;
     'forms: for form in forms {
         if number == u32::MAX {
-            return Err(Memory);
+            return Err(AllocError);
         }
         lines.push(Numbered { line: number, form })?;
         number += 1;
@@ -145,10 +143,6 @@ fn rows(rt: HostRuntime) -> Result<(), Fail> {
             assert!(rt; methods[0].idempotent);
             assert_eq!(rt; methods[0].params.as_slice().len(), 1);
             assert_eq!(rt; methods[0].params.as_slice()[0], Kind::Lent(0));
-            let mut other = tables.copy(alloc)?;
-            assert!(rt; tables.same(&other));
-            other.traits = List::new(alloc);
-            assert!(rt; !tables.same(&other));
         }
         Err(_) => assert!(rt; false),
     }

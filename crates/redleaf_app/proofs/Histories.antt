@@ -1,10 +1,11 @@
 -- What a history tells, one entry later.
 use Rattle.std.proofs.Common.{◌≡◌, ℕ, ◌+◌, ◌≤◌, ◌<◌, Bool, true, false, List, [], ◌∷◌, ◌++◌, length, take, refl, sym, ap, ◌∙◌, arith, append_assoc, append-nil, cond, eqb}
 use Rattle.std.proofs.lemmas.List.{length-take-le}
-use Rattle.rl_defs.specs.declared.entry.Entry.{Entry}
-use Rattle.rl_defs.specs.declared.entry.Entry.TheVariants as entry
-use Rattle.rl_defs.specs.declared.load.Load.{Load}
-use Rattle.rl_defs.specs.Texts.{Tally, no_tally, thread_of, open_after, begins_command, tally_of_own, tally_after, tally_from, tally, reply_text, replies_after, replies_text}
+use Rattle.machine_defs.specs.declared.entry.Entry.{Entry}
+use Rattle.machine_defs.specs.declared.entry.Entry.TheVariants as entry
+use Rattle.rl_defs.specs.declared.load.LoadRows.{LoadRows}
+use Rattle.machine_defs.specs.Texts.{Tally, no_tally, open_after, begins_command, tally_of_own, tally_after, tally_from, tally, reply_text, replies_after, replies_text}
+use Rattle.machine_defs.specs.Entries.{thread_of}
 
 -- the tally of a thread after one entry more
 tally_from_push : (t : ℕ) (y : Tally) (H : List Entry) (e : Entry) → tally_from t y (H ++ e ∷ []) ≡ tally_after t (tally_from t y H) e
@@ -45,12 +46,12 @@ pub few_commands : (t : ℕ) (H : List Entry) → (tally t H).commands ≤ lengt
 few_commands t H = omega (arith, (grows t no_tally H).1)
 
 -- the replies after one entry more
-replies_after_push : (L : Load) (B H : List Entry) (e : Entry) → replies_after L B (H ++ e ∷ []) ≡ replies_after L B H ++ reply_text L (tally (thread_of e) (B ++ H)) e
+replies_after_push : (L : LoadRows) (B H : List Entry) (e : Entry) → replies_after L B (H ++ e ∷ []) ≡ replies_after L B H ++ reply_text L (tally (thread_of e) (B ++ H)) e
 replies_after_push L B [] e = rw (append-nil B, append-nil) refl
 replies_after_push L B (x ∷ H) e =
     rw (replies_after_push L (B ++ x ∷ []) H e, append_assoc B (x ∷ []) H) (sym (append_assoc (reply_text L (tally (thread_of x) B) x) (replies_after L (B ++ x ∷ []) H) (reply_text L (tally (thread_of e) (B ++ x ∷ H)) e)))
 
-pub replies_push : (L : Load) (H : List Entry) (e : Entry) → replies_text L (H ++ e ∷ []) ≡ replies_text L H ++ reply_text L (tally (thread_of e) H) e
+pub replies_push : (L : LoadRows) (H : List Entry) (e : Entry) → replies_text L (H ++ e ∷ []) ≡ replies_text L H ++ reply_text L (tally (thread_of e) H) e
 replies_push L H e = replies_after_push L [] H e
 
 -- what is told of the first entries is little
@@ -60,7 +61,7 @@ few_told y t i H e inside =
     (omega (arith, len, ap (λ (z : Tally). z.calls) e, few_calls t (take i H)), omega (arith, len, ap (λ (z : Tally). z.commands) e, few_commands t (take i H)))
 
 -- the replies to one entry more
-pub replied : (L : Load) (H : List Entry) (i : ℕ) (e : Entry) (old out new : List ℕ) (y : Tally) → take (i + 1) H ≡ take i H ++ e ∷ [] → out ≡ old ++ replies_text L (take i H) → y ≡ tally (thread_of e) (take i H) → new ≡ out ++ reply_text L y e → new ≡ old ++ replies_text L (take (i + 1) H)
+pub replied : (L : LoadRows) (H : List Entry) (i : ℕ) (e : Entry) (old out new : List ℕ) (y : Tally) → take (i + 1) H ≡ take i H ++ e ∷ [] → out ≡ old ++ replies_text L (take i H) → y ≡ tally (thread_of e) (take i H) → new ≡ out ++ reply_text L y e → new ≡ old ++ replies_text L (take (i + 1) H)
 replied L H i e old out new y more before same step =
     let after : replies_text L (take i H) ++ reply_text L y e ≡ replies_text L (take (i + 1) H) =
     ap (λ (z : Tally). replies_text L (take i H) ++ reply_text L z e) same ∙ (sym (replies_push L (take i H) e) ∙ ap (replies_text L) (sym more)) in

@@ -3,8 +3,9 @@ use Rattle.std.proofs.Common.{◌≡◌, ◌≢◌, ℕ, zero, suc, ◌<◌, Boo
 use Rattle.std.proofs.lemmas.Bool.{eqb-true, eq-eqb}
 use Rattle.std.proofs.lemmas.List.{get_or-set_same, get_or-set_other}
 use Rattle.redleaf_app.specs.declared.tallies.Tally.{Tally}
-use Rattle.rl_defs.specs.declared.entry.Entry.{Entry}
-use Rattle.rl_defs.specs.Texts.{thread_of, tally_of_own, tally_after}
+use Rattle.machine_defs.specs.declared.entry.Entry.{Entry}
+use Rattle.machine_defs.specs.Entries.{thread_of}
+use Rattle.machine_defs.specs.Texts.{tally_of_own, tally_after}
 use Rattle.redleaf_app.specs.Tallies.{told, nothing, told_of}
 
 none_kept : (m t : ℕ) → get_or (replicate m nothing) t nothing ≡ nothing

@@ -3,19 +3,20 @@ use Rattle.std.specs.Prelude.{◌≡◌, ℕ, ◌≤◌, ◌⊎◌, List, [], �
 use Rattle.std.specs.Fmt.{decimal}
 use Rattle.std.specs.Io.KnownBytes.{Appends, Consumes, IsAtEnd}
 use Rattle.rl_io.specs.Whole.{AppendsShort}
-use Rattle.rl_defs.specs.declared.load.Load.{Load}
-use Rattle.rl_defs.specs.declared.entry.Entry.{Entry}
-use Rattle.rl_defs.specs.State.{State}
-use Rattle.rl_defs.specs.Small.{Small}
+use Rattle.rl_defs.specs.declared.load.LoadRows.{LoadRows}
+use Rattle.machine_defs.specs.declared.entry.Entry.{Entry}
+use Rattle.machine_defs.specs.State.{State}
+use Rattle.domain_machine.specs.Small.Form.{Small}
 use Rattle.rl_defs.specs.Acceptance.{Accepted, First}
-use Rattle.rl_defs.specs.Run.{WholeRun, OrderRun}
-use Rattle.rl_defs.specs.Texts.{line, out_text}
+use Rattle.domain_machine.specs.Small.Runs.{WholeRun, OrderRun}
+use Rattle.machine_defs.specs.Texts.{line}
+use Rattle.domain_machine.specs.Small.Texts.{out_text}
 use Rattle.redleaf_app.specs.declared.command.Command.{Command}
 use Rattle.redleaf_app.specs.declared.command.Command.TheVariants as command
 use Rattle.redleaf_app.specs.Commands.{words_of}
 
 -- The text is what a whole and ordered run of the load prints.
-pub record IsTextOfRun (load : Load) (text : List ℕ) : Type 0 where
+pub record IsTextOfRun (load : LoadRows) (text : List ℕ) : Type 0 where
   pub entries : List Entry
   pub state : State
   pub whole : WholeRun load entries state
@@ -28,18 +29,18 @@ refusal_text n rule = codes "refused line " ++ (decimal n ++ (codes " rule " ++ 
 
 -- `run`: the bytes are of the small form, and the text is that of a run of the load that they stand for.
 pub record WasRun (bytes text : List ℕ) : Type 0 where
-  pub load : Load
+  pub load : LoadRows
   pub small : Small bytes load
   pub run : IsTextOfRun load text
 
 -- `run`: the bytes are not of the small form, and no other is built.
 pub record IsNotBuilt (bytes text : List ℕ) : Type 0 where
-  pub other : (load : Load) → Small bytes load → ⊥
+  pub other : (load : LoadRows) → Small bytes load → ⊥
   pub is : text ≡ refusal_text 0 99
 
 -- `check`: no rule fails, and the bytes stand for a load.
 pub record IsAccepted (bytes text : List ℕ) : Type 0 where
-  pub load : Load
+  pub load : LoadRows
   pub accepted : Accepted bytes load
   pub is : text ≡ line (codes "accepted")
 

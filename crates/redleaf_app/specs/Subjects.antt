@@ -1,6 +1,6 @@
 -- What an entry tells of.
-use Rattle.rl_defs.specs.declared.entry.Entry.{Entry}
-use Rattle.rl_defs.specs.declared.entry.Entry.TheVariants as entry
+use Rattle.machine_defs.specs.declared.entry.Entry.{Entry}
+use Rattle.machine_defs.specs.declared.entry.Entry.TheVariants as entry
 use Rattle.redleaf_app.specs.declared.acts.Subject.{Subject}
 use Rattle.redleaf_app.specs.declared.acts.Subject.TheVariants as subject
 

@@ -2,7 +2,7 @@
 use Rattle.std.specs.Prelude.{ℕ, List}
 use Rattle.std.specs.List.{slice_index_or}
 use Rattle.redleaf_app.specs.declared.tallies.Tally.{Tally}
-use Rattle.rl_defs.specs.Texts as text
+use Rattle.machine_defs.specs.Texts as text
 
 -- what a kept tally tells
 abbrev pub told : Tally → text.Tally

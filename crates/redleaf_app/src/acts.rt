@@ -1,8 +1,8 @@
 //! What the entries of a history say after their thread.
 ghost use Rattle.std.specs.Prelude.{◌≡◌, ◌++◌, OnOk};
 ghost use Rattle.std.specs.Fmt.{decimal};
-ghost use Rattle.rl_defs.specs.declared.load.Load.{Load};
-ghost use Rattle.rl_defs.specs.Texts as text;
+ghost use Rattle.rl_defs.specs.declared.load.LoadRows.{LoadRows};
+ghost use Rattle.machine_defs.specs.Texts as text;
 ghost use Rattle.redleaf_app.specs.Parts.{entered_text, refused_text, slot_act_text, made_text, hung_text};
 ghost use Rattle.redleaf_app.specs.Subjects.{subject_of};
 
@@ -10,10 +10,10 @@ use crate::put::{
     cause_word, code_word, put, put_args, put_instance, put_number, put_number_word, put_numbers,
     put_object, put_owner, put_struct, put_values, put_word,
 };
-use rl_defs::Memory;
-use rl_defs::entry::Entry;
-use rl_defs::load::Load;
-use rl_defs::values::{Arg, Owner, RpcCode};
+use machine_defs::entry::Entry;
+use machine_defs::values::{Arg, Owner, RpcCode};
+use rl_defs::load::LoadRows;
+use std::alloc::AllocError;
 
 /// What an entry tells of. Each subject has a function that puts its entries.
 #[derive(Clone, Copy, Debug, PartialEq, Eq)]
@@ -58,7 +58,7 @@ fn subject_of(entry: &Entry) -> Subject
 }
 
 /// Puts what an entry says after its thread.
-pub fn put_act(out: &mut Vec<u8>, load: &Load, entry: &Entry) -> Result<(), Memory>
+pub fn put_act(out: &mut Vec<u8>, load: &LoadRows, entry: &Entry) -> Result<(), AllocError>
     ensures { OnOk result (out.new.items ≡ out.old.items ++ text.act_text load.now entry.now) }
 {
     match subject_of(entry) {
@@ -71,7 +71,7 @@ pub fn put_act(out: &mut Vec<u8>, load: &Load, entry: &Entry) -> Result<(), Memo
 }
 
 // Puts what an entry says that tells of a call.
-fn put_call_act(out: &mut Vec<u8>, load: &Load, entry: &Entry) -> Result<(), Memory>
+fn put_call_act(out: &mut Vec<u8>, load: &LoadRows, entry: &Entry) -> Result<(), AllocError>
     requires { subject_of entry.now ≡ Subject.Call }
     ensures { OnOk result (out.new.items ≡ out.old.items ++ text.act_text load.now entry.now) }
 {
@@ -114,7 +114,7 @@ fn put_call_act(out: &mut Vec<u8>, load: &Load, entry: &Entry) -> Result<(), Mem
 }
 
 // Puts a word and a number, each behind a blank.
-fn put_numbered(out: &mut Vec<u8>, word: &[u8], number: u64) -> Result<(), Memory>
+fn put_numbered(out: &mut Vec<u8>, word: &[u8], number: u64) -> Result<(), AllocError>
     ensures { OnOk result (out.new.items ≡ out.old.items ++ text.word word.now (text.spaced (decimal number))) }
 {
     put_word(out, word)?;
@@ -124,12 +124,12 @@ fn put_numbered(out: &mut Vec<u8>, word: &[u8], number: u64) -> Result<(), Memor
 // Puts the number of a call, its target and the instance that it enters.
 fn put_entered(
     out: &mut Vec<u8>,
-    load: &Load,
+    load: &LoadRows,
     word: &[u8],
     call: u32,
     target: u32,
     instance: u32,
-) -> Result<(), Memory>
+) -> Result<(), AllocError>
     ensures { OnOk result (out.new.items ≡ out.old.items ++ entered_text load.now word.now call target instance) }
 {
     put_numbered(out, word, u64::from(call))?;
@@ -141,11 +141,11 @@ fn put_entered(
 // Puts the number of a call that fails, why, and its target.
 fn put_refused(
     out: &mut Vec<u8>,
-    load: &Load,
+    load: &LoadRows,
     call: u32,
     code: RpcCode,
     target: u32,
-) -> Result<(), Memory>
+) -> Result<(), AllocError>
     ensures { OnOk result (out.new.items ≡ out.old.items ++ refused_text load.now call code target) }
 {
     put_numbered(out, b"refuse", u64::from(call))?;
@@ -156,11 +156,11 @@ fn put_refused(
 // Puts the method and the arguments of a call.
 fn put_called(
     out: &mut Vec<u8>,
-    load: &Load,
+    load: &LoadRows,
     target: u32,
     method: u32,
     args: &[Arg],
-) -> Result<(), Memory>
+) -> Result<(), AllocError>
     ensures { OnOk result (out.new.items ≡ out.old.items ++ text.called_text load.now target method args.now) }
 {
     put_word(out, load.method_name(target, method))?;
@@ -168,7 +168,7 @@ fn put_called(
 }
 
 // Puts what an entry says that tells of an instance's end or restart.
-fn put_instance_act(out: &mut Vec<u8>, load: &Load, entry: &Entry) -> Result<(), Memory>
+fn put_instance_act(out: &mut Vec<u8>, load: &LoadRows, entry: &Entry) -> Result<(), AllocError>
     requires { subject_of entry.now ≡ Subject.Instance }
     ensures { OnOk result (out.new.items ≡ out.old.items ++ text.act_text load.now entry.now) }
 {
@@ -202,9 +202,9 @@ fn put_instance_act(out: &mut Vec<u8>, load: &Load, entry: &Entry) -> Result<(),
 }
 
 // Puts what an entry says that tells of an instance's words and slots or of the device.
-fn put_store_act(out: &mut Vec<u8>, entry: &Entry) -> Result<(), Memory>
+fn put_store_act(out: &mut Vec<u8>, entry: &Entry) -> Result<(), AllocError>
     requires { subject_of entry.now ≡ Subject.Store }
-    ensures { OnOk result ((load : Load) → out.new.items ≡ out.old.items ++ text.act_text load entry.now) }
+    ensures { OnOk result ((load : LoadRows) → out.new.items ≡ out.old.items ++ text.act_text load entry.now) }
 {
     match entry {
         Entry::Wput {
@@ -249,7 +249,7 @@ fn put_slot_act(
     instance: u32,
     slot: &[u8],
     object: u64,
-) -> Result<(), Memory>
+) -> Result<(), AllocError>
     ensures { OnOk result (out.new.items ≡ out.old.items ++ slot_act_text word.now instance slot.now object) }
 {
     put_word(out, word)?;
@@ -259,7 +259,7 @@ fn put_slot_act(
 }
 
 // Puts what an entry says that tells of an object. That an object is freed is said with no thread.
-fn put_object_act(out: &mut Vec<u8>, load: &Load, entry: &Entry) -> Result<(), Memory>
+fn put_object_act(out: &mut Vec<u8>, load: &LoadRows, entry: &Entry) -> Result<(), AllocError>
     requires { subject_of entry.now ≡ Subject.Object }
     ensures { OnOk result (out.new.items ≡ out.old.items ++ text.act_text load.now entry.now) }
 {
@@ -307,7 +307,7 @@ fn put_object_act(out: &mut Vec<u8>, load: &Load, entry: &Entry) -> Result<(), M
 }
 
 // Puts a word and an object, each behind a blank.
-fn put_object_word(out: &mut Vec<u8>, word: &[u8], object: u64) -> Result<(), Memory>
+fn put_object_word(out: &mut Vec<u8>, word: &[u8], object: u64) -> Result<(), AllocError>
     ensures { OnOk result (out.new.items ≡ out.old.items ++ text.word word.now (text.spaced (text.object_text object))) }
 {
     put_word(out, word)?;
@@ -317,11 +317,11 @@ fn put_object_word(out: &mut Vec<u8>, word: &[u8], object: u64) -> Result<(), Me
 // Puts the owner, the number and the struct of an object that is made.
 fn put_made(
     out: &mut Vec<u8>,
-    load: &Load,
+    load: &LoadRows,
     owner: Owner,
     object: u64,
     ty: u32,
-) -> Result<(), Memory>
+) -> Result<(), AllocError>
     ensures { OnOk result (out.new.items ≡ out.old.items ++ made_text load.now owner object ty) }
 {
     put_word(out, b"new")?;
@@ -337,7 +337,7 @@ fn put_hung(
     object: u64,
     place: u32,
     hung: u64,
-) -> Result<(), Memory>
+) -> Result<(), AllocError>
     ensures { OnOk result (out.new.items ≡ out.old.items ++ hung_text word.now object place hung) }
 {
     put_object_word(out, word, object)?;
@@ -346,9 +346,9 @@ fn put_hung(
 }
 
 // Puts what an entry says that tells of a client's script.
-fn put_script_act(out: &mut Vec<u8>, entry: &Entry) -> Result<(), Memory>
+fn put_script_act(out: &mut Vec<u8>, entry: &Entry) -> Result<(), AllocError>
     requires { subject_of entry.now ≡ Subject.Script }
-    ensures { OnOk result ((load : Load) → out.new.items ≡ out.old.items ++ text.act_text load entry.now) }
+    ensures { OnOk result ((load : LoadRows) → out.new.items ≡ out.old.items ++ text.act_text load entry.now) }
 {
     match entry {
         Entry::Skip { command, .. } => put_numbered(out, b"skip", u64::from(*command)),

@@ -3,7 +3,7 @@ ghost use Rattle.std.specs.Prelude.{◌≡◌, ◌≢◌, ◌≤◌, ◌⊎◌, 
 ghost use Rattle.std.specs.Io.KnownBytes.{Appends};
 ghost use Rattle.rl_io.specs.Causes.{Rose};
 ghost use Rattle.rl_io.specs.Whole.{ConsumesAtMost, ConsumesMoreThan, AppendsShort};
-ghost use Rattle.rl_defs.specs.Small.{IsSmallLoad};
+ghost use Rattle.domain_machine.specs.Small.Form.{IsSmallLoad};
 ghost use Rattle.redleaf_app.specs.declared.command.Command.TheVariants as command;
 ghost use Rattle.redleaf_app.specs.Commands.{AreOfNone};
 ghost use Rattle.redleaf_app.specs.Outcomes.{IsTextOfRun, WasDone, WasRefused, WasCutOff};
@@ -18,10 +18,10 @@ use crate::status::Status;
 use crate::texts::out_of;
 use domain_loader::load::load;
 use domain_machine::{Finish, World};
-use rl_defs::load::Load;
-use rl_defs::{LoadFault, Memory, Refusal};
+use rl_defs::load::LoadRows;
+use rl_defs::{LoadFault, Refusal};
 use rl_io::{Failed, ReadAll, Sink, Source, read_whole, write_whole};
-use std::alloc::Global;
+use std::alloc::{AllocError, Global};
 
 /// The most bytes that a bundle may have.
 pub const LONGEST_BUNDLE: usize = 1_048_576;
@@ -39,7 +39,7 @@ enum Reply {
 }
 
 // Runs a load to its end, and answers the text of the run.
-fn text_of_run(alloc: Global, load: Load) -> Result<Vec<u8>, Memory>
+fn text_of_run(alloc: Global, load: LoadRows) -> Result<Vec<u8>, AllocError>
     requires { IsSmallLoad load }
     ensures { IfOk result (λ text. IsTextOfRun load text.items) }
 {
@@ -47,12 +47,12 @@ fn text_of_run(alloc: Global, load: Load) -> Result<Vec<u8>, Memory>
     match world.finish() {
         Finish::Whole => out_of(alloc, world.load(), world.log().as_slice()),
         Finish::Long => unreachable!(),
-        Finish::Memory => Err(Memory),
+        Finish::Memory => Err(AllocError),
     }
 }
 
 // What `run` answers.
-fn run(alloc: Global, bytes: &[u8]) -> Result<Reply, Memory>
+fn run(alloc: Global, bytes: &[u8]) -> Result<Reply, AllocError>
     ensures { IfOk result (λ reply. Answers command.Run bytes.now reply) }
 {
     match read_small(alloc, bytes)? {
@@ -62,7 +62,7 @@ fn run(alloc: Global, bytes: &[u8]) -> Result<Reply, Memory>
 }
 
 // What `check` answers.
-fn check(alloc: Global, bytes: &[u8]) -> Result<Reply, Memory>
+fn check(alloc: Global, bytes: &[u8]) -> Result<Reply, AllocError>
     requires { length bytes.now ≤ LONGEST_BUNDLE }
     ensures { IfOk result (λ reply. Answers command.Check bytes.now reply) }
 {
@@ -73,12 +73,12 @@ fn check(alloc: Global, bytes: &[u8]) -> Result<Reply, Memory>
             Ok(Reply::Answered(text))
         }
         Err(LoadFault::Refused(at)) => Ok(Reply::Refused(refusal_text(alloc, at)?)),
-        Err(LoadFault::Memory) => Err(Memory),
+        Err(LoadFault::Memory) => Err(AllocError),
     }
 }
 
 // What a command answers to the bytes of a bundle.
-fn reply_to(alloc: Global, command: Command, bytes: &[u8]) -> Result<Reply, Memory>
+fn reply_to(alloc: Global, command: Command, bytes: &[u8]) -> Result<Reply, AllocError>
     requires { length bytes.now ≤ LONGEST_BUNDLE }
     ensures { IfOk result (λ reply. Answers command bytes.now reply) }
 {
@@ -157,6 +157,6 @@ pub fn redleaf_calm<S: Source, K: Sink>(
     match reply_to(alloc, command, &bytes) {
         Ok(Reply::Answered(text)) => give(sink, &text, Status::Done),
         Ok(Reply::Refused(text)) => give(sink, &text, Status::Refused),
-        Err(Memory) => Status::Memory,
+        Err(AllocError) => Status::Memory,
     }
 }

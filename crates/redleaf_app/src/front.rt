@@ -47,8 +47,8 @@ fn number_of(digits: &[u8]) -> Option<u64>
     value_of(digits)
 }
 
-// The number at the front, in its one spelling, and what follows its last digit.
-pub(crate) fn number_at(bytes: &[u8]) -> Option<(u64, &[u8])>
+/// The number at the front, in its one spelling, and what follows its last digit. None where no such number below 2^64 stands there.
+pub fn number_at(bytes: &[u8]) -> Option<(u64, &[u8])>
     ensures found { IfSome result (λ r. (bytes.now ≡ decimal r.0 ++ r.1.now) × (r.0 < 2 ^ 64) × NoDigit r.1.now) }
     ensures none { IfNone result ((n : ℕ) (rest : List ℕ) → n < 2 ^ 64 → NoDigit rest → bytes.now ≢ decimal n ++ rest) }
 {

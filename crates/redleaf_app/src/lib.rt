@@ -4,7 +4,7 @@
 mod acts;
 mod calm;
 mod command;
-mod front;
+pub mod front;
 pub mod put;
 mod refusal;
 mod small;

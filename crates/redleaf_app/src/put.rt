@@ -1,25 +1,27 @@
 //! The small parts of a text, each put behind what is there.
 ghost use Rattle.std.specs.Prelude.{◌≡◌, ◌++◌, OnOk};
 ghost use Rattle.std.specs.Fmt.{decimal};
-ghost use Rattle.rl_defs.specs.Texts as text;
+ghost use Rattle.machine_defs.specs.Texts as text;
+ghost use Rattle.machine_defs.specs.Entries as entries;
 
 use itoa::Buffer;
-use rl_defs::Memory;
-use rl_defs::load::Load;
-use rl_defs::values::{Arg, Cause, Owner, RpcCode, Value};
+use machine_defs::values::{Arg, Cause, Owner, RpcCode};
+use rl_defs::load::LoadRows;
+use rl_defs::values::Value;
+use std::alloc::AllocError;
 
 /// Puts bytes.
-pub fn put(out: &mut Vec<u8>, bytes: &[u8]) -> Result<(), Memory>
+pub fn put(out: &mut Vec<u8>, bytes: &[u8]) -> Result<(), AllocError>
     ensures { OnOk result (out.new.items ≡ out.old.items ++ bytes.now) }
 {
     match out.extend_from_slice(bytes) {
         Ok(()) => Ok(()),
-        Err(_) => Err(Memory),
+        Err(_) => Err(AllocError),
     }
 }
 
 /// Puts a number.
-pub fn put_number(out: &mut Vec<u8>, number: u64) -> Result<(), Memory>
+pub fn put_number(out: &mut Vec<u8>, number: u64) -> Result<(), AllocError>
     ensures { OnOk result (out.new.items ≡ out.old.items ++ decimal number) }
 {
     let mut digits = Buffer::new();
@@ -27,7 +29,7 @@ pub fn put_number(out: &mut Vec<u8>, number: u64) -> Result<(), Memory>
 }
 
 /// Puts a word behind a blank.
-pub fn put_word(out: &mut Vec<u8>, word: &[u8]) -> Result<(), Memory>
+pub fn put_word(out: &mut Vec<u8>, word: &[u8]) -> Result<(), AllocError>
     ensures { OnOk result (out.new.items ≡ out.old.items ++ text.spaced word.now) }
 {
     put(out, b" ")?;
@@ -35,7 +37,7 @@ pub fn put_word(out: &mut Vec<u8>, word: &[u8]) -> Result<(), Memory>
 }
 
 /// Puts a number behind a blank.
-pub fn put_number_word(out: &mut Vec<u8>, number: u64) -> Result<(), Memory>
+pub fn put_number_word(out: &mut Vec<u8>, number: u64) -> Result<(), AllocError>
     ensures { OnOk result (out.new.items ≡ out.old.items ++ text.spaced (decimal number)) }
 {
     put(out, b" ")?;
@@ -43,7 +45,7 @@ pub fn put_number_word(out: &mut Vec<u8>, number: u64) -> Result<(), Memory>
 }
 
 /// Puts an object behind a blank.
-pub fn put_object(out: &mut Vec<u8>, object: u64) -> Result<(), Memory>
+pub fn put_object(out: &mut Vec<u8>, object: u64) -> Result<(), AllocError>
     ensures { OnOk result (out.new.items ≡ out.old.items ++ text.spaced (text.object_text object)) }
 {
     put(out, b" o")?;
@@ -51,7 +53,7 @@ pub fn put_object(out: &mut Vec<u8>, object: u64) -> Result<(), Memory>
 }
 
 /// Puts an instance behind a blank.
-pub fn put_instance(out: &mut Vec<u8>, instance: u32) -> Result<(), Memory>
+pub fn put_instance(out: &mut Vec<u8>, instance: u32) -> Result<(), AllocError>
     ensures { OnOk result (out.new.items ≡ out.old.items ++ text.spaced (text.instance_text instance)) }
 {
     put(out, b" i")?;
@@ -59,7 +61,7 @@ pub fn put_instance(out: &mut Vec<u8>, instance: u32) -> Result<(), Memory>
 }
 
 /// Puts a client.
-pub fn put_client(out: &mut Vec<u8>, client: u32) -> Result<(), Memory>
+pub fn put_client(out: &mut Vec<u8>, client: u32) -> Result<(), AllocError>
     ensures { OnOk result (out.new.items ≡ out.old.items ++ text.client_text client) }
 {
     put(out, b"c")?;
@@ -67,7 +69,7 @@ pub fn put_client(out: &mut Vec<u8>, client: u32) -> Result<(), Memory>
 }
 
 /// Puts an owner behind a blank.
-pub fn put_owner(out: &mut Vec<u8>, owner: Owner) -> Result<(), Memory>
+pub fn put_owner(out: &mut Vec<u8>, owner: Owner) -> Result<(), AllocError>
     ensures { OnOk result (out.new.items ≡ out.old.items ++ text.spaced (text.owner_text owner)) }
 {
     match owner {
@@ -80,7 +82,7 @@ pub fn put_owner(out: &mut Vec<u8>, owner: Owner) -> Result<(), Memory>
 }
 
 // Puts a target behind a blank.
-fn put_target(out: &mut Vec<u8>, load: &Load, target: u32) -> Result<(), Memory>
+fn put_target(out: &mut Vec<u8>, load: &LoadRows, target: u32) -> Result<(), AllocError>
     ensures { OnOk result (out.new.items ≡ out.old.items ++ text.spaced (text.target_text load.now target)) }
 {
     put(out, b" @")?;
@@ -88,7 +90,7 @@ fn put_target(out: &mut Vec<u8>, load: &Load, target: u32) -> Result<(), Memory>
 }
 
 // Puts an argument behind a blank.
-fn put_arg(out: &mut Vec<u8>, load: &Load, arg: Arg) -> Result<(), Memory>
+fn put_arg(out: &mut Vec<u8>, load: &LoadRows, arg: Arg) -> Result<(), AllocError>
     ensures { OnOk result (out.new.items ≡ out.old.items ++ text.spaced (text.arg_text load.now arg)) }
 {
     match arg {
@@ -103,7 +105,7 @@ fn put_arg(out: &mut Vec<u8>, load: &Load, arg: Arg) -> Result<(), Memory>
 }
 
 /// Puts arguments, each behind a blank.
-pub fn put_args(out: &mut Vec<u8>, load: &Load, args: &[Arg]) -> Result<(), Memory>
+pub fn put_args(out: &mut Vec<u8>, load: &LoadRows, args: &[Arg]) -> Result<(), AllocError>
     ensures { OnOk result (out.new.items ≡ out.old.items ++ text.args_text load.now args.now) }
 {
     'each: for arg in args {
@@ -113,7 +115,7 @@ pub fn put_args(out: &mut Vec<u8>, load: &Load, args: &[Arg]) -> Result<(), Memo
 }
 
 // Puts a value behind a blank.
-fn put_value(out: &mut Vec<u8>, load: &Load, value: Value) -> Result<(), Memory>
+fn put_value(out: &mut Vec<u8>, load: &LoadRows, value: Value) -> Result<(), AllocError>
     ensures { OnOk result (out.new.items ≡ out.old.items ++ text.spaced (text.value_text load.now value)) }
 {
     match value {
@@ -124,7 +126,7 @@ fn put_value(out: &mut Vec<u8>, load: &Load, value: Value) -> Result<(), Memory>
 }
 
 /// Puts values, each behind a blank.
-pub fn put_values(out: &mut Vec<u8>, load: &Load, values: &[Value]) -> Result<(), Memory>
+pub fn put_values(out: &mut Vec<u8>, load: &LoadRows, values: &[Value]) -> Result<(), AllocError>
     ensures { OnOk result (out.new.items ≡ out.old.items ++ text.values_text load.now values.now) }
 {
     'each: for value in values {
@@ -134,7 +136,7 @@ pub fn put_values(out: &mut Vec<u8>, load: &Load, values: &[Value]) -> Result<()
 }
 
 /// Puts numbers, each behind a blank.
-pub fn put_numbers(out: &mut Vec<u8>, numbers: &[u64]) -> Result<(), Memory>
+pub fn put_numbers(out: &mut Vec<u8>, numbers: &[u64]) -> Result<(), AllocError>
     ensures { OnOk result (out.new.items ≡ out.old.items ++ text.numbers_text numbers.now) }
 {
     'each: for number in numbers {
@@ -157,7 +159,7 @@ pub fn code_word(code: RpcCode) -> &'static [u8]
 
 /// The number of an error of a call.
 pub fn code_number(code: RpcCode) -> u64
-    ensures { result ≡ text.code_number code }
+    ensures { result ≡ entries.code_number code }
 {
     code as u64
 }
@@ -181,7 +183,7 @@ pub fn cause_word(cause: Cause) -> &'static [u8]
 }
 
 // The name of a struct.
-fn struct_name(load: &Load, ty: u32) -> &[u8]
+fn struct_name(load: &LoadRows, ty: u32) -> &[u8]
     ensures { result.now ≡ text.struct_name load.now ty }
 {
     match load.tables.get().structs.get(ty as usize) {
@@ -191,7 +193,7 @@ fn struct_name(load: &Load, ty: u32) -> &[u8]
 }
 
 /// Puts the name of a struct behind a blank.
-pub fn put_struct(out: &mut Vec<u8>, load: &Load, ty: u32) -> Result<(), Memory>
+pub fn put_struct(out: &mut Vec<u8>, load: &LoadRows, ty: u32) -> Result<(), AllocError>
     ensures { OnOk result (out.new.items ≡ out.old.items ++ text.spaced (text.struct_name load.now ty)) }
 {
     put_word(out, struct_name(load, ty))

@@ -4,11 +4,11 @@ ghost use Rattle.redleaf_app.specs.Outcomes.{refusal_text};
 
 use crate::front::{after, number_at};
 use crate::put::{put, put_number};
-use rl_defs::{Memory, Refusal};
-use std::alloc::Global;
+use rl_defs::Refusal;
+use std::alloc::{AllocError, Global};
 
 /// What is printed where a line is refused.
-pub(crate) fn refusal_text(alloc: Global, at: Refusal) -> Result<Vec<u8>, Memory>
+pub(crate) fn refusal_text(alloc: Global, at: Refusal) -> Result<Vec<u8>, AllocError>
     ensures { IfOk result (λ text. text.items ≡ refusal_text at.line at.rule) }
 {
     let mut text = Vec::new(alloc);

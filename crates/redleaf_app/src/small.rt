@@ -1,14 +1,13 @@
 //! The reader of the small form of a bundle: one domain that adds, and one client that calls it.
 ghost use Rattle.std.specs.Prelude.{◌≡◌, ◌≢◌, ℕ, List, ◌++◌, IfSome, IfNone, IfOk};
-ghost use Rattle.rl_defs.specs.Small.{call_line, Fits, Small};
-ghost use Rattle.rl_defs.specs.declared.load.Load.{Load};
+ghost use Rattle.domain_machine.specs.Small.Form.{call_line, Fits, Small};
+ghost use Rattle.rl_defs.specs.declared.load.LoadRows.{LoadRows};
 ghost use Rattle.redleaf_app.specs.Script.{IsScript};
 
 use crate::front::{after, number_at};
 use crate::small_load::load_of;
-use rl_defs::Memory;
-use rl_defs::load::Load;
-use std::alloc::Global;
+use rl_defs::load::LoadRows;
+use std::alloc::{AllocError, Global};
 
 // The most calls of a small form.
 const MOST_CALLS: usize = 1000;
@@ -31,7 +30,7 @@ fn call_at(bytes: &[u8]) -> Option<((u64, u64), &[u8])>
 }
 
 // The numbers of the call lines, where nothing but the closing line follows them.
-fn numbers_of(alloc: Global, bytes: &[u8]) -> Result<Option<Vec<(u64, u64)>>, Memory>
+fn numbers_of(alloc: Global, bytes: &[u8]) -> Result<Option<Vec<(u64, u64)>>, AllocError>
     ensures found { IfOk result (λ o. IfSome o (λ v. IsScript bytes.now v.items)) }
     ensures none { IfOk result (λ o. IfNone o ((numbers : List (ℕ × ℕ)) → IsScript bytes.now numbers → ⊥)) }
 {
@@ -42,7 +41,7 @@ fn numbers_of(alloc: Global, bytes: &[u8]) -> Result<Option<Vec<(u64, u64)>>, Me
             return Ok(None);
         }
         if numbers.push(pair).is_err() {
-            return Err(Memory);
+            return Err(AllocError);
         }
         rest = more;
     }
@@ -54,9 +53,9 @@ fn numbers_of(alloc: Global, bytes: &[u8]) -> Result<Option<Vec<(u64, u64)>>, Me
 }
 
 /// The load that the bytes stand for, where they are of the small form.
-pub fn read_small(alloc: Global, bytes: &[u8]) -> Result<Option<Load>, Memory>
+pub fn read_small(alloc: Global, bytes: &[u8]) -> Result<Option<LoadRows>, AllocError>
     ensures found { IfOk result (λ o. IfSome o (λ load. Small bytes.now load)) }
-    ensures none { IfOk result (λ o. IfNone o ((load : Load) → Small bytes.now load → ⊥)) }
+    ensures none { IfOk result (λ o. IfNone o ((load : LoadRows) → Small bytes.now load → ⊥)) }
 {
     let Some(rest) = after(bytes, HEAD) else {
         return Ok(None);

@@ -1,20 +1,19 @@
 //! The load of a small form.
 ghost use Rattle.std.specs.Prelude.{◌≡◌, ◌<◌, [], ◌∷◌, IsTrue, IfOk, map};
 ghost use Rattle.rl_defs.specs.Words.{is_name};
-ghost use Rattle.rl_defs.specs.Small.{small_tables, small_domain, small_rows, small_entries, plain_row, small_load, command_of, at_line, register, r0, r1, r2};
+ghost use Rattle.domain_machine.specs.Small.Form.{small_tables, small_domain, small_rows, small_entries, plain_row, small_load, command_of, at_line, register, r0, r1, r2};
 ghost use Rattle.rl_defs.specs.declared.code.DomainLine.TheVariants as form;
 ghost use Rattle.rl_defs.specs.declared.code.Instr.TheVariants as instr;
 ghost use Rattle.rl_defs.specs.declared.code.MathOp.TheVariants as op;
 
-use rl_defs::Memory;
 use rl_defs::bundle::Numbered;
 use rl_defs::checked::{CheckedDomain, LineRow, Way};
 use rl_defs::code::{DomainLine, DomainText, Instr, MathOp, Register};
 use rl_defs::list::List;
-use rl_defs::load::{ClientRow, Command, Load, LoadRow, ScriptArg};
+use rl_defs::load::{ClientRow, Command, LoadRow, LoadRows, ScriptArg};
 use rl_defs::name::Name;
 use rl_defs::tables::{Kind, MethodRow, SharedTables, Tables, TraitRow, Width};
-use std::alloc::Global;
+use std::alloc::{AllocError, Global};
 
 // The name that a text is.
 fn name_of(text: &[u8]) -> Name
@@ -27,7 +26,7 @@ fn name_of(text: &[u8]) -> Name
     }
 }
 
-fn list_of<T: Drop>(alloc: Global, item: T) -> Result<List<T>, Memory>
+fn list_of<T: Drop>(alloc: Global, item: T) -> Result<List<T>, AllocError>
     ensures { IfOk result (λ l. l ≡ item ∷ []) }
 {
     let mut list = List::new(alloc);
@@ -36,7 +35,7 @@ fn list_of<T: Drop>(alloc: Global, item: T) -> Result<List<T>, Memory>
 }
 
 // The trait `Math` with its method `add`.
-fn math_trait(alloc: Global) -> Result<TraitRow, Memory>
+fn math_trait(alloc: Global) -> Result<TraitRow, AllocError>
     ensures { IfOk result (λ t. t ∷ [] ≡ small_tables.traits) }
 {
     let mut params = list_of(alloc, Kind::Num(Width::W64))?;
@@ -53,7 +52,7 @@ fn math_trait(alloc: Global) -> Result<TraitRow, Memory>
     })
 }
 
-fn tables(alloc: Global) -> Result<Tables, Memory>
+fn tables(alloc: Global) -> Result<Tables, AllocError>
     ensures { IfOk result (λ t. t ≡ small_tables) }
 {
     Ok(Tables {
@@ -88,7 +87,7 @@ fn sum_line() -> DomainLine
 }
 
 // `ret r2`
-fn return_line(alloc: Global) -> Result<DomainLine, Memory>
+fn return_line(alloc: Global) -> Result<DomainLine, AllocError>
     ensures { IfOk result (λ l. l ≡ form.Code (instr.Ret (r2 ∷ []))) }
 {
     let sum = register(2);
@@ -97,7 +96,7 @@ fn return_line(alloc: Global) -> Result<DomainLine, Memory>
 }
 
 // The lines of the domain `Calc`, whose function adds its two parameters.
-fn domain(alloc: Global) -> Result<DomainText, Memory>
+fn domain(alloc: Global) -> Result<DomainText, AllocError>
     ensures { IfOk result (λ t. t.lines ≡ small_domain.lines) }
 {
     let head = DomainLine::Domain(name_of(b"Calc"), name_of(b"Math"));
@@ -128,7 +127,7 @@ fn plain_row(place: u32) -> LineRow
     }
 }
 
-fn rows(alloc: Global) -> Result<Vec<LineRow>, Memory>
+fn rows(alloc: Global) -> Result<Vec<LineRow>, AllocError>
     ensures { IfOk result (λ r. r.items ≡ small_rows) }
 {
     let mut rows = list_of(alloc, plain_row(0))?;
@@ -141,8 +140,8 @@ fn rows(alloc: Global) -> Result<Vec<LineRow>, Memory>
 }
 
 // The domain, with the tables that it was checked against. The form is one domain, so that it needs no check.
-#[tactic(auto, using(rl_defs::proofs::SmallChecked::small_checked))]
-fn checked_domain(alloc: Global, tables: SharedTables) -> Result<CheckedDomain, Memory>
+#[tactic(auto, using(domain_machine::proofs::SmallChecked::small_checked))]
+fn checked_domain(alloc: Global, tables: SharedTables) -> Result<CheckedDomain, AllocError>
     requires { tables ≡ small_tables }
     ensures { IfOk result (λ d. d ≡ small_domain) }
 {
@@ -153,7 +152,7 @@ fn checked_domain(alloc: Global, tables: SharedTables) -> Result<CheckedDomain, 
 }
 
 // The call that adds two numbers.
-fn command(alloc: Global, pair: (u64, u64)) -> Result<Command, Memory>
+fn command(alloc: Global, pair: (u64, u64)) -> Result<Command, AllocError>
     ensures { IfOk result (λ c. c ≡ command_of pair) }
 {
     let mut args = list_of(alloc, ScriptArg::Num(pair.0))?;
@@ -166,7 +165,7 @@ fn command(alloc: Global, pair: (u64, u64)) -> Result<Command, Memory>
     })
 }
 
-fn commands(alloc: Global, numbers: &[(u64, u64)]) -> Result<List<Command>, Memory>
+fn commands(alloc: Global, numbers: &[(u64, u64)]) -> Result<List<Command>, AllocError>
     ensures { IfOk result (λ l. l ≡ map command_of numbers.now) }
 {
     let mut list = List::new(alloc);
@@ -177,7 +176,7 @@ fn commands(alloc: Global, numbers: &[(u64, u64)]) -> Result<List<Command>, Memo
 }
 
 /// The load of the calls with these numbers.
-pub fn load_of(alloc: Global, numbers: &[(u64, u64)]) -> Result<Load, Memory>
+pub fn load_of(alloc: Global, numbers: &[(u64, u64)]) -> Result<LoadRows, AllocError>
     ensures { IfOk result (λ l. l ≡ small_load numbers.now) }
 {
     let tables = SharedTables::new(alloc, tables(alloc)?)?;
@@ -192,7 +191,7 @@ pub fn load_of(alloc: Global, numbers: &[(u64, u64)]) -> Result<Load, Memory>
         name: name_of(b"a"),
         commands: commands(alloc, numbers)?,
     };
-    Ok(Load {
+    Ok(LoadRows {
         tables,
         domains: list_of(alloc, domain)?,
         loads: list_of(alloc, calc)?,

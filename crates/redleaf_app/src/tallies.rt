@@ -1,10 +1,11 @@
 //! What a history tells of each thread: how many of its calls are open, and how many commands it has begun.
 ghost use Rattle.std.specs.Prelude.{◌≡◌, ℕ, ◌+◌, ◌<◌, ◌^◌, length, OnOk};
-ghost use Rattle.rl_defs.specs.Texts as text;
+ghost use Rattle.machine_defs.specs.Texts as text;
+ghost use Rattle.machine_defs.specs.Entries as entries;
 ghost use Rattle.redleaf_app.specs.Tallies.{told, told_of};
 
-use rl_defs::Memory;
-use rl_defs::entry::Entry;
+use machine_defs::entry::Entry;
+use std::alloc::AllocError;
 
 /// What a history tells of a thread so far.
 #[derive(Clone, Copy, Debug)]
@@ -22,7 +23,7 @@ const NOTHING: Tally = Tally {
 
 /// The thread of an entry, 0 of a `free`.
 pub fn thread_of(entry: &Entry) -> u32
-    ensures { result ≡ text.thread_of entry.now }
+    ensures { result ≡ entries.thread_of entry.now }
 {
     match entry {
         Entry::Call { thread, .. }
@@ -99,9 +100,9 @@ pub fn tally_of(tallies: &[Tally], thread: u32) -> Tally
 }
 
 /// Tells an entry to its thread's tally.
-pub fn tell(tallies: &mut Vec<Tally>, entry: &Entry) -> Result<(), Memory>
-    requires calls { (told_of tallies.old.items (text.thread_of entry.now)).calls + 1 < 2 ^ 64 }
-    requires commands { (told_of tallies.old.items (text.thread_of entry.now)).commands + 1 < 2 ^ 64 }
+pub fn tell(tallies: &mut Vec<Tally>, entry: &Entry) -> Result<(), AllocError>
+    requires calls { (told_of tallies.old.items (entries.thread_of entry.now)).calls + 1 < 2 ^ 64 }
+    requires commands { (told_of tallies.old.items (entries.thread_of entry.now)).commands + 1 < 2 ^ 64 }
     ensures { OnOk result ((t : ℕ) → told_of tallies.new.items t ≡ text.tally_after t (told_of tallies.old.items t) entry.now) }
 {
     let thread = thread_of(entry) as usize;
@@ -112,7 +113,7 @@ pub fn tell(tallies: &mut Vec<Tally>, entry: &Entry) -> Result<(), Memory>
 }
 
 // Keeps a tally of the thread with this number.
-fn make_room(tallies: &mut Vec<Tally>, thread: usize) -> Result<(), Memory>
+fn make_room(tallies: &mut Vec<Tally>, thread: usize) -> Result<(), AllocError>
     requires { thread + 1 < 2 ^ 64 }
     ensures same { (t : ℕ) → told_of tallies.new.items t ≡ told_of tallies.old.items t }
     ensures room { OnOk result (thread < length tallies.new.items) }
@@ -122,6 +123,6 @@ fn make_room(tallies: &mut Vec<Tally>, thread: usize) -> Result<(), Memory>
     }
     match tallies.resize(thread + 1, NOTHING) {
         Ok(()) => Ok(()),
-        Err(_) => Err(Memory),
+        Err(_) => Err(AllocError),
     }
 }

@@ -1,20 +1,21 @@
 //! The texts of a run: its history, its replies and its report.
 ghost use Rattle.std.specs.Prelude.{◌≡◌, ◌+◌, ◌<◌, ◌^◌, ◌++◌, OnOk, IfOk};
-ghost use Rattle.rl_defs.specs.Texts as text;
+ghost use Rattle.domain_machine.specs.Small.Texts as small;
+ghost use Rattle.machine_defs.specs.Texts as text;
 ghost use Rattle.redleaf_app.specs.Parts.{replied_text, error_line, given_line};
 ghost use Rattle.redleaf_app.specs.Tallies.{told};
 
 use crate::acts::put_act;
 use crate::put::{code_number, put, put_client, put_number_word, put_object, put_values, put_word};
 use crate::tallies::{Tally, tally_of, tell, thread_of};
-use rl_defs::Memory;
-use rl_defs::entry::Entry;
-use rl_defs::load::Load;
-use rl_defs::values::{RpcCode, Value};
-use std::alloc::Global;
+use machine_defs::entry::Entry;
+use machine_defs::values::RpcCode;
+use rl_defs::load::LoadRows;
+use rl_defs::values::Value;
+use std::alloc::{AllocError, Global};
 
 // Puts the line of an entry.
-fn put_entry(out: &mut Vec<u8>, load: &Load, entry: &Entry) -> Result<(), Memory>
+fn put_entry(out: &mut Vec<u8>, load: &LoadRows, entry: &Entry) -> Result<(), AllocError>
     ensures { OnOk result (out.new.items ≡ out.old.items ++ text.entry_text load.now entry.now) }
 {
     match entry {
@@ -32,7 +33,7 @@ fn put_entry(out: &mut Vec<u8>, load: &Load, entry: &Entry) -> Result<(), Memory
 }
 
 // Puts the lines of the entries.
-fn put_history(out: &mut Vec<u8>, load: &Load, entries: &[Entry]) -> Result<(), Memory>
+fn put_history(out: &mut Vec<u8>, load: &LoadRows, entries: &[Entry]) -> Result<(), AllocError>
     ensures { OnOk result (out.new.items ≡ out.old.items ++ text.history_text load.now entries.now) }
 {
     'each: for entry in entries {
@@ -42,7 +43,7 @@ fn put_history(out: &mut Vec<u8>, load: &Load, entries: &[Entry]) -> Result<(), 
 }
 
 // Puts the reply of a thread's command: its client, the command's number and what it says.
-fn put_replied(out: &mut Vec<u8>, thread: u32, command: u64, says: &[u8]) -> Result<(), Memory>
+fn put_replied(out: &mut Vec<u8>, thread: u32, command: u64, says: &[u8]) -> Result<(), AllocError>
     ensures { OnOk result (out.new.items ≡ out.old.items ++ replied_text thread command says.now) }
 {
     put_client(out, thread)?;
@@ -51,7 +52,7 @@ fn put_replied(out: &mut Vec<u8>, thread: u32, command: u64, says: &[u8]) -> Res
 }
 
 // Puts the line of a command whose call failed.
-fn put_error(out: &mut Vec<u8>, thread: u32, command: u64, number: u64) -> Result<(), Memory>
+fn put_error(out: &mut Vec<u8>, thread: u32, command: u64, number: u64) -> Result<(), AllocError>
     ensures { OnOk result (out.new.items ≡ out.old.items ++ error_line thread command number) }
 {
     put_replied(out, thread, command, b"error")?;
@@ -62,12 +63,12 @@ fn put_error(out: &mut Vec<u8>, thread: u32, command: u64, number: u64) -> Resul
 // Puts the line of a command that gave values.
 fn put_given(
     out: &mut Vec<u8>,
-    load: &Load,
+    load: &LoadRows,
     thread: u32,
     command: u64,
     says: &[u8],
     values: &[Value],
-) -> Result<(), Memory>
+) -> Result<(), AllocError>
     ensures { OnOk result (out.new.items ≡ out.old.items ++ given_line load.now thread command says.now values.now) }
 {
     put_replied(out, thread, command, says)?;
@@ -76,7 +77,12 @@ fn put_given(
 }
 
 // Puts the reply that an entry is, where it ends a command that has one. The tally is what was told of its thread before it.
-fn put_reply(out: &mut Vec<u8>, load: &Load, tally: Tally, entry: &Entry) -> Result<(), Memory>
+fn put_reply(
+    out: &mut Vec<u8>,
+    load: &LoadRows,
+    tally: Tally,
+    entry: &Entry,
+) -> Result<(), AllocError>
     requires { tally.commands + 1 < 2 ^ 64 }
     ensures { OnOk result (out.new.items ≡ out.old.items ++ text.reply_text load.now (told tally) entry.now) }
 {
@@ -114,9 +120,9 @@ fn put_reply(out: &mut Vec<u8>, load: &Load, tally: Tally, entry: &Entry) -> Res
 fn put_replies(
     alloc: Global,
     out: &mut Vec<u8>,
-    load: &Load,
+    load: &LoadRows,
     entries: &[Entry],
-) -> Result<(), Memory>
+) -> Result<(), AllocError>
     ensures { OnOk result (out.new.items ≡ out.old.items ++ text.replies_text load.now entries.now) }
 {
     let mut tallies = Vec::new(alloc);
@@ -129,8 +135,8 @@ fn put_replies(
 }
 
 /// What a run prints.
-pub fn out_of(alloc: Global, load: &Load, entries: &[Entry]) -> Result<Vec<u8>, Memory>
-    ensures { IfOk result (λ v. v.items ≡ text.out_text load.now entries.now) }
+pub fn out_of(alloc: Global, load: &LoadRows, entries: &[Entry]) -> Result<Vec<u8>, AllocError>
+    ensures { IfOk result (λ v. v.items ≡ small.out_text load.now entries.now) }
 {
     let mut out = Vec::new(alloc);
     put(&mut out, b"history\n")?;

@@ -6,8 +6,7 @@ ghost use Rattle.rl_io.specs.Causes.{next_count, HasCause};
 ghost use Rattle.rl_io.specs.InMemory.{fresh_source, after_take, after_failed_take, fresh_sink, share, after_give, after_failed_give};
 
 use crate::{Failed, Sink, Source};
-use rl_defs::Memory;
-use std::alloc::Global;
+use std::alloc::{AllocError, Global};
 use std::marker::Model;
 
 /// Bytes that are taken from the front. Contracts see it as the bytes that are left.
@@ -66,7 +65,13 @@ impl Model for MemSource {
 
     ghost Value = { SourceState };
 
-    ghost view = { λ s. record { left = s.left; chunk = s.chunk; failing = s.failing.items; calls = s.calls; faults = s.faults } };
+    ghost view = { λ s. record {
+      left = s.left;
+      chunk = s.chunk;
+      failing = s.failing.items;
+      calls = s.calls;
+      faults = s.faults;
+    } };
 
     ghost invariant = { λ s. 0 < s.chunk };
 }
@@ -108,8 +113,10 @@ impl Source for MemSource {
         // Exactly the calls named fail.
         ensures failing { IsErr result ↔ Contains self.old.failing (next_count self.old.calls) }
         ensures count { IfOk result (λ n. n ≡ min (length self.old.left) (min self.old.chunk (length buf.old))) }
-        ensures buffer { MatchResult result (λ n. buf.new ≡ take n self.old.left ++ drop n buf.old) (λ _. buf.new ≡ buf.old) }
-        ensures after { MatchResult result (λ n. self.new ≡ after_take n self.old) (λ _. self.new ≡ after_failed_take self.old) }
+        ensures buffer { MatchResult result (λ n. buf.new ≡ take n self.old.left ++ drop n buf.old)
+            (λ _. buf.new ≡ buf.old) }
+        ensures after { MatchResult result (λ n. self.new ≡ after_take n self.old)
+            (λ _. self.new ≡ after_failed_take self.old) }
     {
         self.calls = self.calls.saturating_add(1);
         if self.failing.contains(&self.calls) {
@@ -142,7 +149,14 @@ impl Model for MemSink {
 
     ghost Value = { SinkState };
 
-    ghost view = { λ s. record { given = s.bytes.items; room = s.room; chunk = s.chunk; failing = s.failing.items; calls = s.calls; faults = s.faults } };
+    ghost view = { λ s. record {
+      given = s.bytes.items;
+      room = s.room;
+      chunk = s.chunk;
+      failing = s.failing.items;
+      calls = s.calls;
+      faults = s.faults;
+    } };
 
     ghost invariant = { λ s. (vec_len s.bytes ≤ s.room) × (s.room ≤ vec_capacity s.bytes) };
 }
@@ -152,11 +166,16 @@ impl MemSink {
     ///
     /// # Errors
     ///
-    /// [`Memory`] where the room can't be reserved.
-    pub fn new(alloc: Global, room: usize, chunk: usize, failing: Vec<u64>) -> Result<Self, Memory>
+    /// [`AllocError`] where the room can't be reserved.
+    pub fn new(
+        alloc: Global,
+        room: usize,
+        chunk: usize,
+        failing: Vec<u64>,
+    ) -> Result<Self, AllocError>
         ensures { IfOk result (λ sink. sink ≡ fresh_sink room chunk failing.items) }
     {
-        let bytes = Vec::with_capacity(alloc, room).map_err(|_| Memory)?;
+        let bytes = Vec::with_capacity(alloc, room)?;
         Ok(MemSink {
             bytes,
             room,
@@ -199,7 +218,8 @@ impl Sink for MemSink {
         ensures failing { IsErr result ↔ (Contains self.old.failing (next_count self.old.calls)
             ⊎ (0 < length piece.now) × (share self.old (length piece.now) ≡ 0)) }
         ensures count { IfOk result (λ n. n ≡ share self.old (length piece.now)) }
-        ensures after { MatchResult result (λ n. self.new ≡ after_give (take n piece.now) self.old) (λ _. self.new ≡ after_failed_give self.old) }
+        ensures after { MatchResult result (λ n. self.new ≡ after_give (take n piece.now) self.old)
+            (λ _. self.new ≡ after_failed_give self.old) }
     {
         self.calls = self.calls.saturating_add(1);
         let free = self.room - self.bytes.len();

@@ -48,7 +48,7 @@ fn writes_a_front_into_limited_room(rt: HostRuntime) -> Result<(), Fail> {
     ];
     for (room, chunk, failing, whole, given, calls) in rows {
         let failing = vec![in rt.alloc(); failing]?;
-        let mut sink = MemSink::new(rt.alloc(), room, chunk, failing).map_err(|_| "memory")?;
+        let mut sink = MemSink::new(rt.alloc(), room, chunk, failing)?;
         assert_eq!(rt;
             write_whole(&mut sink, DIGITS).is_ok(),
             whole,

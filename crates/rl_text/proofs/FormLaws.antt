@@ -7,21 +7,8 @@ use Rattle.rl_defs.specs.Tokens.{Token, HasTokens, IsSkipped, FailsTokens}
 use Rattle.rl_defs.specs.Parts.{FailsLine}
 use Rattle.rl_text.specs.declared.lexeme.Lexeme.{Lexeme}
 use Rattle.rl_text.specs.Lexemes.{token_of}
-use Rattle.rl_text.specs.Forms.{IsRefused, Reads, OneForm, SkippedIsNoForm}
+use Rattle.rl_text.specs.Forms.{IsReading, IsRefused, Reads, OneForm, SkippedIsNoForm}
 use Rattle.rl_text.proofs.ReadingLaws.{one_reading}
-
--- A form that a text is, found in the text's tokens.
-pub record IsFound {Form : Type 0} (read : List ℕ → List Token → Option Form) (form : Form) (text : List ℕ) : Type 0 where
-  pub tokens : List Token
-  pub has : HasTokens tokens text
-  pub found : read text tokens ≡ Some form
-
--- How the lines of a part are read: a text and its tokens give a form exactly where the text is a line of it, and no tokens give
--- none. A reading that needs the tokens alone leaves the text alone.
-pub record IsReading {Form : Type 0} (is_line : Form → List ℕ → Type 0) (read : List ℕ → List Token → Option Form) : Type 0 where
-  pub takes : (text : List ℕ) (ts : List Token) (form : Form) → HasTokens ts text → read text ts ≡ Some form → is_line form text
-  pub finds : (text : List ℕ) (form : Form) → is_line form text → IsFound read form text
-  pub nothing : (text : List ℕ) → read text [] ≡ None
 
 -- the reading of a line that is a form
 pub reads_form : {Form : Type 0} (is_line : Form → List ℕ → Type 0) (read : List ℕ → List Token → Option Form) → IsReading is_line read → (text : List ℕ) (ts : List Token) (form : Form) → HasTokens ts text → is_line form text → read text ts ≡ Some form

@@ -8,16 +8,22 @@ use Rattle.rl_defs.specs.declared.LoadFault.{LoadFault}
 use Rattle.rl_defs.specs.declared.LoadFault.TheVariants.{Refused, Memory}
 use Rattle.rl_defs.specs.declared.bundle.Numbered.{Numbered}
 use Rattle.rl_defs.specs.Refusals.{Failing, IsFirst, Nowhere, Answers}
-use Rattle.rl_defs.specs.Tokens.{IsSkipped}
+use Rattle.rl_defs.specs.Tokens.{Token, IsSkipped}
 use Rattle.rl_defs.specs.Parts.{Grammar, next_open, block_behind, forms_of, numbered, StandFor, IsNoForm, IsMisplaced, IsLeftOpen, FailsPart}
 use Rattle.rl_text.specs.Forms.{IsRefused, OneForm, SkippedIsNoForm, OnePart}
 use Rattle.rl_text.specs.PartSteps.{Stands, Skips, Barred, TakesLine}
+use Rattle.rl_text.specs.Forms.{IsReading}
+use Rattle.rl_text.proofs.FormLaws.{one_form, skipped_no_form}
 use Rattle.rl_text.proofs.ListPlaces.{read_within, one_more}
 
 -- What a part needs of its forms: a text is one form at most, and a text without tokens is none.
 pub record AreForms {Form Block : Type 0} (G : Grammar Form Block) : Type 0 where
   pub one : OneForm G.is_line
   pub skipped : SkippedIsNoForm G.is_line
+
+-- what a part needs of its forms, where its lines are read so
+pub forms_read : {Form Block : Type 0} (G : Grammar Form Block) (read : List ℕ → List Token → Option Form) → IsReading G.is_line read → AreForms G
+forms_read G read reading = record { one = one_form G.is_line read reading; skipped = skipped_no_form G.is_line read reading }
 
 -- ---- what texts stand for
 

@@ -2,7 +2,7 @@
 use Rattle.std.proofs.Common.{◌≡◌, ℕ, ◌+◌, ◌<◌, ◌≤◌, List, [], ◌∷◌, ◌++◌, length, drop, get_or, map, sym, ap, ◌∙◌, append_assoc, append-nil}
 use Rattle.std.proofs.lemmas.List.{at_drop_more, drop_all}
 use Rattle.rl_defs.specs.Tokens.{Token}
-use Rattle.rl_defs.specs.Canonical.{token_text, gap, render_behind}
+use Rattle.rl_text.specs.Canonical.{token_text, gap, render_behind}
 use Rattle.rl_text.specs.declared.render.Piece.{Piece}
 use Rattle.rl_text.specs.Pieces.{piece_token}
 

@@ -13,7 +13,7 @@ use Rattle.rl_defs.specs.declared.lexeme.Mark.{Mark}
 use Rattle.rl_defs.specs.declared.lexeme.Mark.TheVariants as m
 use Rattle.rl_defs.specs.Words.{is_word, is_word_byte, is_reserved}
 use Rattle.rl_defs.specs.Tokens.{Token, Name, Reserved, Number, Text, Sign, Placed, IsToken, EndsBefore, NoWordByteFirst, ArePlaced, HasTokens, tokens_of, key_text, mark_text, is_blank, is_line_byte, is_text_byte}
-use Rattle.rl_defs.specs.Canonical.{token_text, opens, is_word_token, has_gap, gap, render_behind, render}
+use Rattle.rl_text.specs.Canonical.{token_text, opens, is_word_token, has_gap, gap, render_behind, render}
 use Rattle.rl_defs.specs.DomainForms.{IsDecimal, AreDecimal, HasDecimals}
 use Rattle.rl_text.proofs.Runs.{and_true}
 use Rattle.rl_text.proofs.TokenLaws.{key_word}

@@ -5,7 +5,7 @@ use Rattle.std.proofs.lemmas.List.{take_all}
 use Rattle.std.proofs.lemmas.Bool.Decides.{nat_tests}
 use Rattle.rl_defs.specs.Lines.{lines_of}
 use Rattle.rl_defs.specs.Tokens.{Token, HasTokens, is_line_byte, is_blank}
-use Rattle.rl_defs.specs.Canonical.{render, render_line}
+use Rattle.rl_text.specs.Canonical.{render, render_line}
 use Rattle.rl_defs.specs.DomainForms.{HasDecimals}
 use Rattle.rl_text.specs.Cuts.{kept}
 use Rattle.rl_text.specs.Writable.{AreWritable, written_inside}

@@ -11,3 +11,4 @@ pub mod Writable
 pub mod Pieces
 pub mod Forms
 pub mod PartSteps
+pub mod Canonical

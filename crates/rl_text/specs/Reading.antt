@@ -123,6 +123,16 @@ abbrev pub first_key : List Token → Option Key
 first_key (Reserved key ∷ rest) = Some key
 first_key _ = None
 
+-- a number comes first
+abbrev pub begins_number : List Token → Bool
+begins_number (Number n ∷ rest) = true
+begins_number _ = false
+
+-- this word comes first, which isn't reserved
+abbrev pub begins_word : List ℕ → List Token → Bool
+begins_word word (Name other ∷ rest) = pointwise ◌==◌ other word
+begins_word word _ = false
+
 -- what stands behind the first token
 abbrev pub behind_first : List Token → List Token
 behind_first [] = []

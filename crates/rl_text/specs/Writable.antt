@@ -2,7 +2,7 @@
 use Rattle.std.specs.Prelude.{ℕ, ◌+◌, ◌*◌, ◌<◌, ◌^◌, IsTrue, List, [], ◌∷◌, ◌++◌, replicate}
 use Rattle.std.specs.List.{list_all}
 use Rattle.rl_defs.specs.declared.bundle.Numbered.{Numbered}
-use Rattle.rl_defs.specs.Canonical.{render}
+use Rattle.rl_text.specs.Canonical.{render}
 use Rattle.rl_defs.specs.Words.{is_name}
 use Rattle.rl_defs.specs.Tokens.{Token, Name, Reserved, Number, Text, Sign, is_text_byte}
 use Rattle.rl_defs.specs.Parts.{numbered}

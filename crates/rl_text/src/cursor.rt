@@ -1,10 +1,11 @@
 //! The tokens of a line that are still to be read.
 ghost use Rattle.std.specs.Prelude.{◌≡◌, ℕ, List, MatchBool, Some, None, slice_range};
-ghost use Rattle.rl_text.specs.Reading.{Gives, Passes, name_at, number_at, text_at, mark_at, key_at, word_at, end_at, first_key, behind_first, none_left};
+ghost use Rattle.rl_text.specs.Reading.{Gives, Passes, name_at, number_at, text_at, mark_at, key_at, word_at, end_at, first_key, begins_number, begins_word, behind_first, none_left};
 
 use crate::lexeme::Lexeme;
 use rl_defs::lexeme::{Key, Mark};
 use rl_defs::name::Name;
+use std::alloc::{AllocError, AllocFailed};
 use std::marker::Model;
 
 /// Why nothing was read.
@@ -14,6 +15,29 @@ pub enum Stop {
     NoForm,
     /// Memory ran out.
     Memory,
+}
+
+impl From<AllocError> for Stop {
+    ghost use Rattle.std.specs.Prelude.{◌≡◌};
+    ghost use Rattle.rl_text.specs.declared.cursor.Stop.TheVariants as stop;
+
+    ghost from_gives = { λ _ e. e ≡ stop.Memory };
+
+    fn from(_error: AllocError) -> Stop {
+        Stop::Memory
+    }
+}
+
+// What couldn't be stored is let go.
+impl<T: Drop> From<AllocFailed<T>> for Stop {
+    ghost use Rattle.std.specs.Prelude.{◌≡◌};
+    ghost use Rattle.rl_text.specs.declared.cursor.Stop.TheVariants as stop;
+
+    ghost from_gives = { λ _ e. e ≡ stop.Memory };
+
+    fn from(_error: AllocFailed<T>) -> Stop {
+        Stop::Memory
+    }
 }
 
 /// The tokens of a line that are left. A method that reads takes its part from the front; where there is no such part, some tokens
@@ -168,6 +192,26 @@ impl<'a> Cursor<'a> {
         match self.left {
             [Lexeme::Key(key), ..] => Some(*key),
             _ => None,
+        }
+    }
+
+    /// Whether a number comes first.
+    pub fn begins_number(&self) -> bool
+        ensures { result ≡ begins_number self.now }
+    {
+        match self.left {
+            [Lexeme::Number(_), ..] => true,
+            _ => false,
+        }
+    }
+
+    /// Whether this word comes first, which isn't reserved.
+    pub fn begins_word(&self, word: &[u8]) -> bool
+        ensures { result ≡ begins_word word.now self.now }
+    {
+        match self.left {
+            [Lexeme::Word(name), ..] => name.bytes() == word,
+            _ => false,
         }
     }
 

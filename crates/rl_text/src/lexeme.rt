@@ -7,7 +7,7 @@ ghost use Rattle.rl_text.specs.Places.{text_of, IsWithin};
 
 use crate::line::Line;
 use crate::scan::{Next, are_line_bytes, next_token};
-use crate::token::{LONGEST_LINE, refused};
+use crate::token::LONGEST_LINE;
 use rl_defs::LoadFault;
 use rl_defs::lexeme::{Key, Mark};
 use rl_defs::name::Name;
@@ -35,7 +35,7 @@ pub fn lexemes(all: &mut Vec<Lexeme>, bytes: &[u8], line: &Line) -> Result<(), L
     let text = line.text(bytes);
     all.clear();
     if text.len() > LONGEST_LINE {
-        return Err(refused(line.number, 1));
+        return Err(LoadFault::refused(line.number, 1));
     }
     // The bytes of tokens may stand in a line, so only those behind the last one are tested.
     let mut at = 0;
@@ -46,14 +46,11 @@ pub fn lexemes(all: &mut Vec<Lexeme>, bytes: &[u8], line: &Line) -> Result<(), L
                 if are_line_bytes(rest) {
                     return Ok(());
                 }
-                return Err(refused(line.number, 1));
+                return Err(LoadFault::refused(line.number, 1));
             }
-            Next::Stray => return Err(refused(line.number, 1)),
+            Next::Stray => return Err(LoadFault::refused(line.number, 1)),
             Next::Found(found) => {
-                match all.push(found.lexeme) {
-                    Ok(()) => {}
-                    Err(_) => return Err(LoadFault::Memory),
-                }
+                all.push(found.lexeme)?;
                 at = found.stop;
             }
         }

@@ -7,6 +7,7 @@ pub mod lexeme;
 pub mod line;
 pub mod list;
 mod number;
+pub mod part;
 pub mod render;
 pub mod scan;
 pub mod token;

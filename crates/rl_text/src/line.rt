@@ -6,8 +6,7 @@ ghost use Rattle.rl_text.specs.Places.{text_of, IsWithin, AreLines, AreNumbered,
 ghost use Rattle.rl_text.specs.Cuts.{IsCut, kept};
 
 use memchr::memchr;
-use rl_defs::Memory;
-use std::alloc::Global;
+use std::alloc::{AllocError, Global};
 
 /// The most bytes that a text may have.
 pub const LONGEST_TEXT: usize = 1_048_576;
@@ -34,7 +33,7 @@ impl Line {
 }
 
 /// All lines of a text, in order.
-pub fn lines(alloc: Global, bytes: &[u8]) -> Result<Vec<Line>, Memory>
+pub fn lines(alloc: Global, bytes: &[u8]) -> Result<Vec<Line>, AllocError>
     requires { length bytes.now ≤ LONGEST_TEXT }
     ensures texts { IfOk result (λ v. map (text_of bytes.now) v.items ≡ lines_of bytes.now) }
     ensures places { IfOk result (λ v. AreLines bytes.now v.items) }
@@ -51,10 +50,7 @@ pub fn lines(alloc: Global, bytes: &[u8]) -> Result<Vec<Line>, Memory>
             start: start as u32,
             end: (start + cut.text) as u32,
         };
-        match all.push(line) {
-            Ok(()) => {}
-            Err(_) => return Err(Memory),
-        }
+        all.push(line)?;
         start += cut.whole;
     }
     Ok(all)

@@ -28,10 +28,7 @@ pub fn behind_commas<I: Item>(alloc: Global, left: &mut Cursor<'_>) -> Result<Ve
     let mut all = Vec::new(alloc);
     'items: while left.skip_mark(Mark::Comma) {
         let item = I::read(alloc, left)?;
-        match all.push(item) {
-            Ok(()) => {}
-            Err(_) => return Err(Stop::Memory),
-        }
+        all.push(item)?;
     }
     Ok(all)
 }
@@ -43,10 +40,8 @@ pub fn list<I: Item>(alloc: Global, left: &mut Cursor<'_>) -> Result<List<I::Par
 {
     let first = I::read(alloc, left)?;
     let mut all = behind_commas::<I>(alloc, left)?;
-    match all.insert(0, first) {
-        Ok(()) => Ok(List::from_vec(all)),
-        Err(_) => Err(Stop::Memory),
-    }
+    all.insert(0, first)?;
+    Ok(List::from_vec(all))
 }
 
 /// Parts up to the end of the line, any number of them, with commas between them.

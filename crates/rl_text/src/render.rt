@@ -1,16 +1,15 @@
 //! The canonical spelling of a line's tokens.
 ghost use Rattle.std.specs.Prelude.{◌≡◌, ℕ, ◌+◌, ◌*◌, ◌<◌, List, [], ◌∷◌, ◌++◌, OnOk, IsTrue, OnErr, replicate, map};
 ghost use Rattle.std.specs.Fmt.{decimal};
-ghost use Rattle.rl_defs.specs.Canonical.{token_text, opens, closes, is_word_token, is_parenthesis, has_gap, gap, render_behind, render, render_line};
+ghost use Rattle.rl_text.specs.Canonical.{token_text, opens, closes, is_word_token, is_parenthesis, has_gap, gap, render_behind, render, render_line};
 ghost use Rattle.rl_defs.specs.Tokens as t;
 ghost use Rattle.rl_text.specs.Pieces.{piece_token};
 ghost use Rattle.rl_defs.specs.Words.{is_name};
 
 use crate::scan::{key_text, mark_text};
-use rl_defs::Memory;
 use rl_defs::lexeme::{Key, Mark};
 use rl_defs::name::Name;
-use std::alloc::Global;
+use std::alloc::{AllocError, Global};
 use std::marker::Model;
 
 // A token that is to be written.
@@ -59,14 +58,14 @@ impl<'a> Spelling<'a> {
     }
 
     /// Puts a word that isn't reserved last.
-    pub fn name(&mut self, name: Name) -> Result<(), Memory>
+    pub fn name(&mut self, name: Name) -> Result<(), AllocError>
         ensures { OnOk result (self.new ≡ self.old ++ t.Name name ∷ []) }
     {
         push(&mut self.pieces, Piece::Word(name))
     }
 
     /// Puts a word that isn't reserved last, by its bytes.
-    pub fn word(&mut self, word: &[u8]) -> Result<(), Memory>
+    pub fn word(&mut self, word: &[u8]) -> Result<(), AllocError>
         requires { IsTrue (is_name word.now) }
         ensures { OnOk result (self.new ≡ self.old ++ t.Name word.now ∷ []) }
     {
@@ -77,44 +76,44 @@ impl<'a> Spelling<'a> {
     }
 
     /// Puts a reserved word last.
-    pub fn key(&mut self, key: Key) -> Result<(), Memory>
+    pub fn key(&mut self, key: Key) -> Result<(), AllocError>
         ensures { OnOk result (self.new ≡ self.old ++ t.Reserved key ∷ []) }
     {
         push(&mut self.pieces, Piece::Key(key))
     }
 
     /// Puts a number last.
-    pub fn number(&mut self, n: u64) -> Result<(), Memory>
+    pub fn number(&mut self, n: u64) -> Result<(), AllocError>
         ensures { OnOk result (self.new ≡ self.old ++ t.Number n ∷ []) }
     {
         push(&mut self.pieces, Piece::Number(n))
     }
 
     /// Puts a text last: the bytes between its quotes.
-    pub fn text(&mut self, inner: &'a [u8]) -> Result<(), Memory>
+    pub fn text(&mut self, inner: &'a [u8]) -> Result<(), AllocError>
         ensures { OnOk result (self.new ≡ self.old ++ t.Text inner.now ∷ []) }
     {
         push(&mut self.pieces, Piece::Text(inner))
     }
 
     /// Puts a mark last.
-    pub fn mark(&mut self, mark: Mark) -> Result<(), Memory>
+    pub fn mark(&mut self, mark: Mark) -> Result<(), AllocError>
         ensures { OnOk result (self.new ≡ self.old ++ t.Sign mark ∷ []) }
     {
         push(&mut self.pieces, Piece::Mark(mark))
     }
 
-    /// Puts the bytes of the tokens behind those of `out`. After `Memory` some of them may stand there.
-    pub fn write(&self, alloc: Global, out: &mut Vec<u8>) -> Result<(), Memory>
+    /// Puts the bytes of the tokens behind those of `out`. After `AllocError` some of them may stand there.
+    pub fn write(&self, alloc: Global, out: &mut Vec<u8>) -> Result<(), AllocError>
         ensures { OnOk result (out.new.items ≡ out.old.items ++ render self.now) }
     {
         put_tokens(alloc, out, &self.pieces)
     }
 
-    /// Puts a whole line behind the bytes of `out`: four blanks for each open block, the tokens and a line feed. After `Memory`
+    /// Puts a whole line behind the bytes of `out`: four blanks for each open block, the tokens and a line feed. After `AllocError`
     /// some of it may stand there.
-    #[tactic(auto, unfolding(rl_defs::specs::Canonical::render_line))]
-    pub fn write_line(&self, alloc: Global, depth: u32, out: &mut Vec<u8>) -> Result<(), Memory>
+    #[tactic(auto, unfolding(crate::specs::Canonical::render_line))]
+    pub fn write_line(&self, alloc: Global, depth: u32, out: &mut Vec<u8>) -> Result<(), AllocError>
         ensures { OnOk result (out.new.items ≡ out.old.items ++ render_line depth self.now) }
     {
         put_blanks(out, u64::from(depth) * 4)?;
@@ -123,25 +122,20 @@ impl<'a> Spelling<'a> {
     }
 }
 
-fn push<T: Drop>(all: &mut Vec<T>, item: T) -> Result<(), Memory>
+fn push<T: Drop>(all: &mut Vec<T>, item: T) -> Result<(), AllocError>
     ensures { OnOk result (all.new.items ≡ all.old.items ++ item ∷ []) }
 {
-    match all.push(item) {
-        Ok(()) => Ok(()),
-        Err(_) => Err(Memory),
-    }
+    all.push(item)?;
+    Ok(())
 }
 
-fn put(out: &mut Vec<u8>, bytes: &[u8]) -> Result<(), Memory>
+fn put(out: &mut Vec<u8>, bytes: &[u8]) -> Result<(), AllocError>
     ensures { OnOk result (out.new.items ≡ out.old.items ++ bytes.now) }
 {
-    match out.extend_from_slice(bytes) {
-        Ok(()) => Ok(()),
-        Err(_) => Err(Memory),
-    }
+    out.extend_from_slice(bytes)
 }
 
-fn put_blanks(out: &mut Vec<u8>, count: u64) -> Result<(), Memory>
+fn put_blanks(out: &mut Vec<u8>, count: u64) -> Result<(), AllocError>
     ensures { OnOk result (out.new.items ≡ out.old.items ++ replicate count 32) }
 {
     'blanks: for _ in 0..count {
@@ -150,17 +144,15 @@ fn put_blanks(out: &mut Vec<u8>, count: u64) -> Result<(), Memory>
     Ok(())
 }
 
-fn put_number(alloc: Global, out: &mut Vec<u8>, number: u64) -> Result<(), Memory>
+fn put_number(alloc: Global, out: &mut Vec<u8>, number: u64) -> Result<(), AllocError>
     ensures { OnOk result (out.new.items ≡ out.old.items ++ decimal number) }
 {
-    match number.to_string(alloc) {
-        Ok(text) => put(out, text.as_bytes()),
-        Err(_) => Err(Memory),
-    }
+    let text = number.to_string(alloc)?;
+    put(out, text.as_bytes())
 }
 
 // Puts the bytes of a token last.
-fn put_token(alloc: Global, out: &mut Vec<u8>, piece: &Piece<'_>) -> Result<(), Memory>
+fn put_token(alloc: Global, out: &mut Vec<u8>, piece: &Piece<'_>) -> Result<(), AllocError>
     ensures { OnOk result (out.new.items ≡ out.old.items ++ token_text (piece_token piece.now)) }
 {
     match piece {
@@ -233,7 +225,7 @@ fn is_parenthesis(piece: &Piece<'_>) -> bool
 }
 
 // Whether a blank stands between two tokens.
-#[tactic(auto, unfolding(rl_defs::specs::Canonical::has_gap))]
+#[tactic(auto, unfolding(crate::specs::Canonical::has_gap))]
 fn has_gap(last: &Piece<'_>, next: &Piece<'_>) -> bool
     ensures { result ≡ has_gap (piece_token last.now) (piece_token next.now) }
 {
@@ -246,7 +238,7 @@ fn put_behind(
     out: &mut Vec<u8>,
     last: &Piece<'_>,
     next: &Piece<'_>,
-) -> Result<(), Memory>
+) -> Result<(), AllocError>
     ensures { let before = piece_token last.now in let behind = piece_token next.now in
         OnOk result (out.new.items ≡ out.old.items ++ (gap before behind ++ token_text behind)) }
 {
@@ -256,8 +248,8 @@ fn put_behind(
     put_token(alloc, out, next)
 }
 
-#[tactic(auto, unfolding(rl_defs::specs::Canonical::render))]
-fn put_tokens(alloc: Global, out: &mut Vec<u8>, pieces: &[Piece<'_>]) -> Result<(), Memory>
+#[tactic(auto, unfolding(crate::specs::Canonical::render))]
+fn put_tokens(alloc: Global, out: &mut Vec<u8>, pieces: &[Piece<'_>]) -> Result<(), AllocError>
     ensures { OnOk result (out.new.items ≡ out.old.items ++ render (map piece_token pieces.now)) }
 {
     match pieces {
@@ -275,7 +267,7 @@ fn put_rest<'p, 'a>(
     out: &mut Vec<u8>,
     first: &'p Piece<'a>,
     rest: &'p [Piece<'a>],
-) -> Result<(), Memory>
+) -> Result<(), AllocError>
     ensures { let before = piece_token first.now in
         OnOk result (out.new.items ≡ out.old.items ++ render_behind before (map piece_token rest.now)) }
 {
@@ -295,14 +287,13 @@ mod tests {
     #[test]
     fn written(rt: HostRuntime) -> Result<(), Fail> {
         let mut line = Spelling::new(rt.alloc());
-        line.key(Key::Const).map_err(|_| "memory")?;
-        line.mark(Mark::Ampersand).map_err(|_| "memory")?;
-        line.text(b"a b").map_err(|_| "memory")?;
-        line.number(17).map_err(|_| "memory")?;
-        line.mark(Mark::Comma).map_err(|_| "memory")?;
+        line.key(Key::Const)?;
+        line.mark(Mark::Ampersand)?;
+        line.text(b"a b")?;
+        line.number(17)?;
+        line.mark(Mark::Comma)?;
         let mut bytes = Vec::new(rt.alloc());
-        line.write_line(rt.alloc(), 1, &mut bytes)
-            .map_err(|_| "memory")?;
+        line.write_line(rt.alloc(), 1, &mut bytes)?;
         let wanted: &[u8] = b"    const &\"a b\" 17,\n";
         assert!(rt; bytes.as_slice() == wanted);
         Ok(())

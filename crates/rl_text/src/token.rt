@@ -3,7 +3,6 @@ ghost use Rattle.std.specs.Prelude.{◌≡◌, ℕ, ◌≤◌, ◌<◌, ◌^◌,
 ghost use Rattle.std.specs.List.{list_all};
 ghost use Rattle.rl_defs.specs.Refusals.{Answers};
 ghost use Rattle.rl_defs.specs.Tokens.{FailsTokens, is_line_byte};
-ghost use Rattle.rl_defs.specs.declared.Refusal.{Refusal as ARefusal};
 ghost use Rattle.rl_text.specs.Lexemes.{token_of};
 ghost use Rattle.rl_text.specs.Places.{text_of, IsWithin};
 ghost use Rattle.rl_text.specs.TokenPlaces.{kind_of, AreTokens};
@@ -11,7 +10,7 @@ ghost use Rattle.rl_text.specs.TokenPlaces.{kind_of, AreTokens};
 use crate::lexeme::Lexeme;
 use crate::line::Line;
 use crate::scan::{Next, are_line_bytes, next_token};
-use rl_defs::{LoadFault, Refusal};
+use rl_defs::LoadFault;
 use std::alloc::Global;
 
 /// The most bytes that a line may have, without what ends it.
@@ -42,24 +41,21 @@ pub fn tokens(alloc: Global, bytes: &[u8], line: &Line) -> Result<Vec<Token>, Lo
 {
     let text = line.text(bytes);
     if !may_be_line(text) {
-        return Err(refused(line.number, 1));
+        return Err(LoadFault::refused(line.number, 1));
     }
     let mut all = Vec::new(alloc);
     let mut at = 0;
     'line: loop {
         match next_token(text, at) {
             Next::End => return Ok(all),
-            Next::Stray => return Err(refused(line.number, 1)),
+            Next::Stray => return Err(LoadFault::refused(line.number, 1)),
             Next::Found(found) => {
                 let token = Token {
                     kind: kind_of(found.lexeme),
                     start: line.start + found.start as u32,
                     end: line.start + found.stop as u32,
                 };
-                match all.push(token) {
-                    Ok(()) => {}
-                    Err(_) => return Err(LoadFault::Memory),
-                }
+                all.push(token)?;
                 at = found.stop;
             }
         }
@@ -84,13 +80,6 @@ pub(crate) fn may_be_line(text: &[u8]) -> bool
     text.len() <= LONGEST_LINE && are_line_bytes(text)
 }
 
-/// The refusal of a line by a rule.
-pub fn refused(line: u32, rule: u8) -> LoadFault
-    ensures { result ≡ LoadFault.Refused (record { line = line; rule = rule }) }
-{
-    LoadFault::Refused(Refusal { line, rule })
-}
-
 #[cfg(test)]
 mod tests {
     use super::*;
@@ -113,7 +102,7 @@ mod tests {
     #[test]
     fn lines_and_tokens(rt: HostRuntime) -> Result<(), Fail> {
         let text = b"a 1\r\n\r\n  // b\nc";
-        let all = lines(rt.alloc(), text).map_err(|_| "memory")?;
+        let all = lines(rt.alloc(), text)?;
         assert_eq!(rt; all.len(), 4);
         assert_eq!(rt;
             all[3],

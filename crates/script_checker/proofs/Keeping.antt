@@ -20,7 +20,7 @@ use Rattle.rl_defs.specs.Interfaces.{place_of}
 use Rattle.rl_defs.specs.CodeNames.{struct_number, params_of, results_of}
 use Rattle.rl_defs.specs.BundleNames.{name_given}
 use Rattle.rl_defs.specs.ScriptRules.{Bound, paired, binds, kind_of, is_object, name_suits, lent_suits, suits, args_suit, names_suit, has_count, keeps_kinds, moved_by, gone_by, method_of_call}
-use Rattle.rl_defs.specs.Standing.{name_number, arg_of, commands_in, method_number_of, target_number}
+use Rattle.rl_defs.specs.LoadOf.{name_number, arg_of, commands_in, method_number_of, target_number}
 use Rattle.script_checker.proofs.Naming.{place_grows, last_there, same_name, there_first, there_last}
 
 pub both_true : (a b : Bool) → (a && b) ≡ true → (a ≡ true) × (b ≡ true)

@@ -11,7 +11,7 @@ use Rattle.rl_defs.specs.declared.load.ClientRow.{ClientRow}
 use Rattle.rl_defs.specs.declared.tables.Tables.{Tables}
 use Rattle.rl_defs.specs.declared.bundle.Bundle.{Bundle}
 use Rattle.rl_defs.specs.BundleNames.{ClientLines, commands_at}
-use Rattle.rl_defs.specs.Standing.{commands_in}
+use Rattle.rl_defs.specs.LoadOf.{commands_in}
 use Rattle.script_checker.specs.Known.{Known, nothing, after}
 use Rattle.script_checker.specs.Verdicts.{broken, refusal_at, first_of, verdict, commands_behind, script_verdict, verdict_of, row_before, rows_of, Says}
 

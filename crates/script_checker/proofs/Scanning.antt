@@ -12,7 +12,7 @@ use Rattle.rl_defs.specs.declared.tables.Tables.{Tables}
 use Rattle.rl_defs.specs.declared.bundle.Bundle.{Bundle}
 use Rattle.rl_defs.specs.BundleNames.{ClientLines, given_by, names_of, name_given}
 use Rattle.rl_defs.specs.ScriptRules.{Bound, binds, bound_before, gone_before, gone_by, keeps_kinds, keeps_owned}
-use Rattle.rl_defs.specs.Standing.{commands_in, commands_of, script_names}
+use Rattle.rl_defs.specs.LoadOf.{commands_in, commands_of, script_names}
 use Rattle.script_checker.specs.Known.{Known, nothing, after}
 use Rattle.script_checker.specs.Verdicts.{broken, refusal_at, first_of, verdict, commands_behind}
 use Rattle.script_checker.proofs.Gathering.{given_more, given_append}

@@ -16,8 +16,9 @@ use Rattle.rl_defs.specs.Parts.{forms_of, next_open}
 use Rattle.rl_defs.specs.BundleParts.{ClientBlock, Outside, InClient, client_part}
 use Rattle.rl_defs.specs.BundleNames.{ClientLines, given_by, names_of, client_given, commands_at, scripts_of}
 use Rattle.rl_defs.specs.BundleOrder.{Rise, numbers_of, line_numbers, IsOrdered}
-use Rattle.rl_defs.specs.ScriptRules.{CommandAt, FailsScripts}
-use Rattle.rl_defs.specs.Standing.{client_rows, clients_of}
+use Rattle.rl_defs.specs.NameRules.{CommandAt}
+use Rattle.rl_defs.specs.ScriptRules.{FailsScripts}
+use Rattle.rl_defs.specs.LoadOf.{client_rows, clients_of}
 use Rattle.script_checker.specs.Known.{nothing}
 use Rattle.script_checker.specs.Verdicts.{first_of, verdict, verdict_of, rows_of, script_verdict, row_before, Says}
 use Rattle.script_checker.proofs.Scanning.{script_scan, script_stands}
@@ -293,7 +294,7 @@ row_line : (tables : Tables) (b : Bundle) (k : ℕ) (form : ClientLine) (ls : Cl
 row_line tables b k (client.Client name) ls e later =
     let h = none_or (verdict tables b nothing (commands_at ls)) (verdict_of tables b ls) e in
     ap (λ (cs : List Command). record { name = name; commands = cs } ∷ rows_of tables b ls) (script_stands tables b (commands_at ls) h.0)
-    ∙ ap (λ (rs : List ClientRow). record { name = name; commands = Rattle.rl_defs.specs.Standing.commands_of tables b (commands_at ls) } ∷ rs) (later h.1)
+    ∙ ap (λ (rs : List ClientRow). record { name = name; commands = Rattle.rl_defs.specs.LoadOf.commands_of tables b (commands_at ls) } ∷ rs) (later h.1)
 row_line tables b k (client.Let name ty values) ls e later = later e
 row_line tables b k (client.Text name ty bytes) ls e later = later e
 row_line tables b k (client.Call target method args names) ls e later = later e

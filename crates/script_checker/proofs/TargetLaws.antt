@@ -1,11 +1,8 @@
 -- The structs, the methods and the targets of a bundle, by their look-ups.
-use Rattle.std.proofs.Common.{◌≡◌, ◌≤◌, ℕ, zero, suc, ◌+◌, get_or, Bool, true, false, List, [], ◌∷◌, ◌++◌, length, Option, Some, None, refl, sym, ap, ◌∙◌, arith, cond, nat_eq, map}
+use Rattle.std.proofs.Common.{◌≡◌, ◌≤◌, ℕ, zero, suc, ◌+◌, get_or, Bool, true, false, List, [], ◌∷◌, ◌++◌, length, Option, Some, None, refl, sym, ap, ◌∙◌, arith, cond, map}
 use Rattle.std.specs.Prelude.{slice_get, unwrap_or, is_some}
-use Rattle.std.specs.Option.{option_map}
-use Rattle.std.specs.Cmp.Lexicographic.{pointwise}
+use Rattle.std.specs.Option.{option_map, option_and_then}
 use Rattle.rl_defs.specs.declared.bundle.Numbered.{Numbered}
-use Rattle.rl_defs.specs.declared.bundle.PlanLine.{PlanLine}
-use Rattle.rl_defs.specs.declared.bundle.PlanLine.TheVariants as plan
 use Rattle.rl_defs.specs.declared.bundle.Bundle.{Bundle}
 use Rattle.rl_defs.specs.declared.code.DomainText.{DomainText}
 use Rattle.rl_defs.specs.declared.code.DomainLine.{DomainLine}
@@ -13,15 +10,14 @@ use Rattle.rl_defs.specs.declared.code.DomainLine.TheVariants as line
 use Rattle.rl_defs.specs.declared.tables.Tables.{Tables}
 use Rattle.rl_defs.specs.Interfaces.{place_of}
 use Rattle.rl_defs.specs.Domains.{Lines, trait_name}
-use Rattle.rl_defs.specs.CodeFits.{IsOneDomain}
+use Rattle.rl_defs.specs.DomainParts.{IsOneDomain}
 use Rattle.rl_defs.specs.DomainParts.{rest_of_domain, begins_domain}
 use Rattle.rl_defs.specs.CodeNames.{trait_number}
-use Rattle.rl_defs.specs.BundleNames.{Given, given_by, names_of, load_names, domain_given, domains_loaded, lines_of_domain, domain_of_load}
-use Rattle.rl_defs.specs.PlanRules.{load_of_shadow, load_at}
-use Rattle.rl_defs.specs.ScriptRules.{trait_of_lines, lines_of_load, domain_of, target_trait}
-use Rattle.rl_defs.specs.Standing.{shadow_given, shadow_names, counted, target_number}
+use Rattle.rl_defs.specs.BundleNames.{Given, given_by, names_of, load_names, domain_given, domains_loaded, lines_of_domain, domain_of_load, shadow_given, shadow_names, shadowed as shadows_loaded, load_lines}
+use Rattle.rl_defs.specs.ScriptRules.{target_trait}
+use Rattle.rl_defs.specs.LoadOf.{counted, target_number}
 use Rattle.script_checker.proofs.Naming.{place_grows, place_behind}
-use Rattle.script_checker.specs.Scopes.{domain_trait, load_traits, load_trait, shadow_traits, shadows_loaded, number_at, all_lines, trait_in}
+use Rattle.script_checker.specs.Scopes.{domain_trait, load_traits, load_trait, shadow_traits, number_at, all_lines, trait_in, trait_of_lines}
 
 pub map_same : {A B : Type 0} (f g : A → B) → ((x : A) → f x ≡ g x) → (xs : List A) → map f xs ≡ map g xs
 map_same f g h [] = refl
@@ -66,7 +62,7 @@ first_names [] l long is one = absurd one
 first_names (x ∷ xs) l long is one = domain_names_one x xs one.1 ∙ ap (λ (y : Numbered DomainLine). domain_given y.form) (sym is)
 
 -- the trait of a load's domain, by its place
-loads_at : (tables : Tables) (b : Bundle) (domains : List (List ℕ)) (k : ℕ) → trait_of_lines tables (lines_of_load b (slice_get domains k)) ≡ unwrap_or (slice_get (map (domain_trait tables b) domains) k) 0
+loads_at : (tables : Tables) (b : Bundle) (domains : List (List ℕ)) (k : ℕ) → trait_of_lines tables (option_and_then (lines_of_domain b) (slice_get domains k)) ≡ unwrap_or (slice_get (map (domain_trait tables b) domains) k) 0
 loads_at tables b [] k = refl
 loads_at tables b (d ∷ ds) zero = refl
 loads_at tables b (d ∷ ds) (suc k) = loads_at tables b ds k
@@ -79,11 +75,7 @@ load_at_place tables b load (Some k) e = rw e (loads_at tables b (names_of (give
 pub load_trait_at : (tables : Tables) (b : Bundle) (load : List ℕ) → load_trait tables b load ≡ number_at (load_traits tables b) (place_of load (load_names b))
 load_trait_at tables b load = load_at_place tables b load (place_of load (load_names b)) refl
 
-abbrev lines_in : Option DomainText → Option Lines
-lines_in None = None
-lines_in (Some d) = Some d.lines
-
-domains_at : (tables : Tables) (domains : List DomainText) (k : ℕ) → trait_of_lines tables (lines_in (slice_get domains k)) ≡ unwrap_or (slice_get (map (λ d. trait_number tables (trait_name d.lines)) domains) k) 0
+domains_at : (tables : Tables) (domains : List DomainText) (k : ℕ) → trait_of_lines tables (option_map (λ (d : DomainText). d.lines) (slice_get domains k)) ≡ unwrap_or (slice_get (map (λ d. trait_number tables (trait_name d.lines)) domains) k) 0
 domains_at tables [] k = refl
 domains_at tables (d ∷ ds) zero = refl
 domains_at tables (d ∷ ds) (suc k) = domains_at tables ds k
@@ -112,36 +104,23 @@ shadow_traits_are tables b loads loaded found are were is =
 
 -- a target that is a load
 pub target_is_load : (tables : Tables) (b : Bundle) (q : List ℕ) (k : ℕ) → place_of q (load_names b) ≡ Some k → target_trait tables b q ≡ number_at (load_traits tables b) (Some k)
-target_is_load tables b q k e = ap (λ (o : Option ℕ). trait_of_lines tables (lines_of_load b (domain_of b (load_at b q o)))) e ∙ load_at_place tables b q (Some k) e
+target_is_load tables b q k e =
+    ap (λ (o : Option ℕ). trait_of_lines tables (option_and_then (load_lines b) (cond (is_some o) (Some q) (option_and_then (slice_get (names_of (given_by shadows_loaded b.plan.lines))) (place_of q (shadow_names b)))))) e
+    ∙ load_at_place tables b q (Some k) e
 
-later_number : (x : ℕ) (xs : List ℕ) (o : Option ℕ) → number_at (x ∷ xs) (option_map (λ k. suc k) o) ≡ number_at xs o
-later_number x xs None = refl
-later_number x xs (Some k) = refl
+-- the trait of a shadow, by its place
+shadows_at : (tables : Tables) (b : Bundle) (loads : List (List ℕ)) (k : ℕ) → trait_of_lines tables (option_and_then (load_lines b) (slice_get loads k)) ≡ unwrap_or (slice_get (map (load_trait tables b) loads) k) 0
+shadows_at tables b [] k = refl
+shadows_at tables b (l ∷ ls) zero = refl
+shadows_at tables b (l ∷ ls) (suc k) = shadows_at tables b ls k
 
--- the trait of a shadow is that of the load on the first line that gives it
-abbrev IsShadowed : Tables → Bundle → List ℕ → List (Numbered PlanLine) → Type 0
-IsShadowed tables b q ls = trait_of_lines tables (lines_of_load b (domain_of b (load_of_shadow ls q))) ≡ number_at (map (load_trait tables b) (names_of (given_by shadows_loaded ls))) (place_of q (names_of (given_by shadow_given ls)))
-
-shadow_test : (tables : Tables) (b : Bundle) (q name load : List ℕ) (n restarts : ℕ) (ls : List (Numbered PlanLine)) (same : Bool) → pointwise nat_eq name q ≡ same → IsShadowed tables b q ls → IsShadowed tables b q (record { line = n; form = plan.Shadow name load restarts } ∷ ls)
-shadow_test tables b q name load n restarts ls true e h = rw e refl
-shadow_test tables b q name load n restarts ls false e h = rw e (h ∙ sym (later_number (load_trait tables b load) (map (load_trait tables b) (names_of (given_by shadows_loaded ls))) (place_of q (names_of (given_by shadow_given ls)))))
-
-shadow_line : (tables : Tables) (b : Bundle) (q : List ℕ) (n : ℕ) (form : PlanLine) (ls : List (Numbered PlanLine)) → IsShadowed tables b q ls → IsShadowed tables b q (record { line = n; form = form } ∷ ls)
-shadow_line tables b q n (plan.Shadow name load restarts) ls h = shadow_test tables b q name load n restarts ls (pointwise nat_eq name q) refl h
-shadow_line tables b q n (plan.Load name domain) ls h = h
-shadow_line tables b q n (plan.Bind load import target) ls h = h
-shadow_line tables b q n (plan.Device load blocks) ls h = h
-shadow_line tables b q n (plan.Serial load) ls h = h
-shadow_line tables b q n (plan.Fuel k) ls h = h
-shadow_line tables b q n (plan.Order clients) ls h = h
-
-shadow_at : (tables : Tables) (b : Bundle) (q : List ℕ) (ls : List (Numbered PlanLine)) → IsShadowed tables b q ls
-shadow_at tables b q [] = refl
-shadow_at tables b q (l ∷ ls) = shadow_line tables b q l.line l.form ls (shadow_at tables b q ls)
+shadow_at_place : (tables : Tables) (b : Bundle) (o : Option ℕ) → trait_of_lines tables (option_and_then (load_lines b) (option_and_then (slice_get (names_of (given_by shadows_loaded b.plan.lines))) o)) ≡ number_at (shadow_traits tables b) o
+shadow_at_place tables b None = refl
+shadow_at_place tables b (Some k) = shadows_at tables b (names_of (given_by shadows_loaded b.plan.lines)) k
 
 -- a target that is no load
 pub target_is_shadow : (tables : Tables) (b : Bundle) (q : List ℕ) → place_of q (load_names b) ≡ None → target_trait tables b q ≡ number_at (shadow_traits tables b) (place_of q (shadow_names b))
-target_is_shadow tables b q e = ap (λ (o : Option ℕ). trait_of_lines tables (lines_of_load b (domain_of b (load_at b q o)))) e ∙ shadow_at tables b q b.plan.lines
+target_is_shadow tables b q e = rw e (shadow_at_place tables b (place_of q (shadow_names b)))
 
 -- the trait of a target that is no load
 pub trait_of_shadow : (tables : Tables) (b : Bundle) (q : List ℕ) (loads shadows : List (List ℕ)) (shadowed : List ℕ) → loads ≡ load_names b → shadows ≡ shadow_names b → shadowed ≡ shadow_traits tables b → place_of q loads ≡ None → number_at shadowed (place_of q shadows) ≡ target_trait tables b q

@@ -1,20 +1,18 @@
 -- A bundle with its tables, and the look-ups that are kept beside them.
-use Rattle.std.specs.Prelude.{◌≡◌, ℕ, ◌+◌, ◌<◌, ◌^◌, List, [], ◌∷◌, map, length, Option, Some, None, slice_get, unwrap_or}
+use Rattle.std.specs.Option.{option_map}
+use Rattle.std.specs.Prelude.{◌≡◌, ℕ, ◌+◌, ◌<◌, ◌^◌, List, [], map, length, Option, Some, None, slice_get, unwrap_or}
 use Rattle.std.specs.List.{flat_map}
-use Rattle.rl_defs.specs.declared.bundle.PlanLine.{PlanLine}
-use Rattle.rl_defs.specs.declared.bundle.PlanLine.TheVariants as plan
 use Rattle.rl_defs.specs.declared.tables.Tables.{Tables}
 use Rattle.rl_defs.specs.declared.bundle.Bundle.{Bundle}
 use Rattle.rl_defs.specs.declared.bundle.Plan.{Plan}
 use Rattle.rl_defs.specs.declared.bundle.Clients.{Clients}
 use Rattle.rl_defs.specs.declared.code.DomainText.{DomainText}
 use Rattle.rl_defs.specs.Interfaces.{place_of}
+use Rattle.rl_defs.specs.CodeNames.{trait_number}
 use Rattle.rl_defs.specs.DomainValue.{Domain}
 use Rattle.rl_defs.specs.Domains.{Lines, trait_name}
-use Rattle.rl_defs.specs.BundleNames.{given_by, names_of, domain_given, load_names, domains_loaded, lines_of_domain, domain_of_load}
-use Rattle.rl_defs.specs.ScriptRules.{trait_of_lines, lines_of_load}
+use Rattle.rl_defs.specs.BundleNames.{given_by, names_of, domain_given, load_names, domains_loaded, lines_of_domain, shadow_names, shadowed as shadows_loaded, load_lines}
 use Rattle.rl_defs.specs.BundleOrder.{bundle_of}
-use Rattle.rl_defs.specs.Standing.{shadow_names}
 
 -- the tables and the parts of a bundle behind its interfaces, whose lines no script rule looks at
 pub record Scoped : Type 0 where
@@ -24,6 +22,10 @@ pub record Scoped : Type 0 where
 abbrev pub without_interfaces : List Domain → Plan → Clients → Bundle
 without_interfaces domains plan clients = bundle_of (record { lines = [] }) domains plan clients
 
+-- the number of the trait of a domain's lines, 0 where there is no domain
+abbrev pub trait_of_lines : Tables → Option Lines → ℕ
+trait_of_lines tables lines = unwrap_or (option_map (λ ls. trait_number tables (trait_name ls)) lines) 0
+
 -- the traits of loads, each by its domain
 abbrev pub domain_trait : Tables → Bundle → List ℕ → ℕ
 domain_trait tables b domain = trait_of_lines tables (lines_of_domain b domain)
@@ -32,12 +34,8 @@ abbrev pub load_traits : Tables → Bundle → List ℕ
 load_traits tables b = map (domain_trait tables b) (names_of (given_by domains_loaded b.plan.lines))
 
 -- the traits of shadows, each by its load
-abbrev pub shadows_loaded : PlanLine → List (List ℕ)
-shadows_loaded (plan.Shadow name load restarts) = load ∷ []
-shadows_loaded _ = []
-
 abbrev pub load_trait : Tables → Bundle → List ℕ → ℕ
-load_trait tables b load = trait_of_lines tables (lines_of_load b (domain_of_load b load))
+load_trait tables b load = trait_of_lines tables (load_lines b load)
 
 abbrev pub shadow_traits : Tables → Bundle → List ℕ
 shadow_traits tables b = map (load_trait tables b) (names_of (given_by shadows_loaded b.plan.lines))

@@ -11,7 +11,7 @@ use Rattle.rl_defs.specs.declared.tables.Tables.{Tables}
 use Rattle.rl_defs.specs.declared.bundle.Bundle.{Bundle}
 use Rattle.rl_defs.specs.BundleNames.{ClientLines, commands_at}
 use Rattle.rl_defs.specs.ScriptRules.{keeps_kinds, keeps_owned}
-use Rattle.rl_defs.specs.Standing.{commands_in}
+use Rattle.rl_defs.specs.LoadOf.{commands_in}
 use Rattle.script_checker.specs.Known.{Known, nothing, after}
 
 -- the lower one of the rules 50 and 51 that a line breaks

@@ -1,15 +1,14 @@
 //! The names of a script, with what they are bound to.
 ghost use Rattle.std.specs.Prelude.{◌≡◌, [], ◌∷◌, ◌++◌, slice_get, OnOk, OnErr};
 ghost use Rattle.rl_defs.specs.ScriptRules.{kind_of, is_among};
-ghost use Rattle.rl_defs.specs.Standing.{name_number};
+ghost use Rattle.rl_defs.specs.LoadOf.{name_number};
 ghost use Rattle.script_checker.specs.Known.{nothing, bound_name};
 
 use crate::names::add;
 use name_tables::names::Names;
-use rl_defs::Memory;
 use rl_defs::name::Name;
 use rl_defs::tables::Kind;
-use std::alloc::Global;
+use std::alloc::{AllocError, Global};
 use std::marker::Model;
 
 /// The names that some lines of a script bind, what each is bound to, and those whose objects were moved or dropped.
@@ -32,14 +31,12 @@ impl Model for Bindings {
     ghost invariant = { λ s. IsEven s.names s.kinds.items };
 }
 
-fn push(kinds: &mut Vec<Kind>, kind: Kind) -> Result<(), Memory>
+fn push(kinds: &mut Vec<Kind>, kind: Kind) -> Result<(), AllocError>
     ensures added { OnOk result (kinds.new.items ≡ kinds.old.items ++ kind ∷ []) }
     ensures full { OnErr result (kinds.new.items ≡ kinds.old.items) }
 {
-    match kinds.push(kind) {
-        Ok(()) => Ok(()),
-        Err(_) => Err(Memory),
-    }
+    kinds.push(kind)?;
+    Ok(())
 }
 
 fn kind_at(kinds: &Vec<Kind>, place: u32) -> Option<Kind>
@@ -85,7 +82,7 @@ impl Bindings {
     }
 
     /// Binds a name.
-    pub fn bind(&mut self, name: &Name, kind: Kind) -> Result<(), Memory>
+    pub fn bind(&mut self, name: &Name, kind: Kind) -> Result<(), AllocError>
         ensures { OnOk result (self.new ≡ record { names = self.old.names ++ name.now ∷ []; bound = self.old.bound ++ bound_name name.now kind ∷ []; gone = self.old.gone }) }
     {
         push(&mut self.kinds, kind)?;
@@ -93,13 +90,13 @@ impl Bindings {
             Ok(_) => Ok(()),
             Err(_) => {
                 self.kinds.pop();
-                Err(Memory)
+                Err(AllocError)
             }
         }
     }
 
     /// Notes that the object of a name was moved or dropped.
-    pub fn leave(&mut self, name: &Name) -> Result<(), Memory>
+    pub fn leave(&mut self, name: &Name) -> Result<(), AllocError>
         ensures { OnOk result (self.new ≡ record { names = self.old.names; bound = self.old.bound; gone = self.old.gone ++ name.now ∷ [] }) }
     {
         add(&mut self.gone, name)?;

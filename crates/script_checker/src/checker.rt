@@ -3,9 +3,9 @@ ghost use Rattle.std.specs.Prelude.{◌≡◌};
 ghost use Rattle.rl_defs.specs.declared.idl.Idl.{Idl};
 ghost use Rattle.rl_defs.specs.Refusals.{Answers};
 ghost use Rattle.rl_defs.specs.BundleOrder.{bundle_of};
-ghost use Rattle.rl_defs.specs.Acceptance.{HasPlan};
+ghost use Rattle.rl_defs.specs.EarlierRules.{HasPlan};
 ghost use Rattle.rl_defs.specs.ScriptRules.{FailsScripts};
-ghost use Rattle.rl_defs.specs.Standing.{clients_of};
+ghost use Rattle.rl_defs.specs.LoadOf.{clients_of};
 
 use crate::clients::rows_of;
 use crate::scope::Scope;
@@ -29,8 +29,6 @@ pub fn check_scripts(
     requires { (idl : Idl) × HasPlan tables.now (bundle_of idl domains.now plan.now clients.now) }
     ensures { (idl : Idl) → Answers (FailsScripts tables.now (bundle_of idl domains.now plan.now clients.now)) (λ rows. rows ≡ clients_of tables.now (bundle_of idl domains.now plan.now clients.now)) result }
 {
-    let Ok(scope) = Scope::new(alloc, tables, domains, plan, clients) else {
-        return Err(LoadFault::Memory);
-    };
+    let scope = Scope::new(alloc, tables, domains, plan, clients)?;
     rows_of(alloc, &scope)
 }

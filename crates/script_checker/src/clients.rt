@@ -37,17 +37,12 @@ pub fn rows_of(alloc: Global, scope: &Scope) -> Result<List<ClientRow>, LoadFaul
     let mut rows = List::new(alloc);
     'each: for place in 0..lines.len() {
         if let ClientLine::Client(name) = &lines[place].form {
-            let commands = match check_script(alloc, scope, commands_at(&lines[place + 1..])) {
-                Ok(commands) => commands,
-                Err(fault) => return Err(fault),
-            };
+            let commands = check_script(alloc, scope, commands_at(&lines[place + 1..]))?;
             let row = ClientRow {
                 name: *name,
                 commands,
             };
-            let Ok(()) = rows.push(row) else {
-                return Err(LoadFault::Memory);
-            };
+            rows.push(row)?;
         }
     }
     Ok(rows)

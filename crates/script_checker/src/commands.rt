@@ -1,19 +1,18 @@
 //! What the lines of a script stand for.
 ghost use Rattle.std.specs.Prelude.{◌≡◌, ℕ, List, [], map, unwrap_or, IfOk};
 ghost use Rattle.std.specs.Option.{option_to_list};
-ghost use Rattle.rl_defs.specs.Standing.{name_number, arg_of, method_number_of, commands_in};
+ghost use Rattle.rl_defs.specs.LoadOf.{name_number, arg_of, method_number_of, commands_in};
 
 use crate::bindings::Bindings;
 use crate::scope::Scope;
-use rl_defs::Memory;
 use rl_defs::bundle::{ClientLine, ScriptArgText};
 use rl_defs::copies::Copies;
 use rl_defs::list::List;
 use rl_defs::load::{Command, ScriptArg};
 use rl_defs::name::Name;
-use std::alloc::Global;
+use std::alloc::{AllocError, Global};
 
-fn copy_bytes(alloc: Global, bytes: &[u8]) -> Result<List<u8>, Memory>
+fn copy_bytes(alloc: Global, bytes: &[u8]) -> Result<List<u8>, AllocError>
     ensures { IfOk result (λ copy. copy ≡ bytes.now) }
 {
     let mut copy = List::new(alloc);
@@ -39,7 +38,7 @@ fn args_of(
     scope: &Scope,
     bindings: &Bindings,
     args: &[ScriptArgText],
-) -> Result<List<ScriptArg>, Memory>
+) -> Result<List<ScriptArg>, AllocError>
     ensures { IfOk result (λ all. all ≡ map (arg_of scope.now.bundle bindings.now.names) args.now) }
 {
     let mut all = List::new(alloc);
@@ -49,7 +48,7 @@ fn args_of(
     Ok(all)
 }
 
-fn numbers_of(alloc: Global, bindings: &Bindings, names: &[Name]) -> Result<List<u32>, Memory>
+fn numbers_of(alloc: Global, bindings: &Bindings, names: &[Name]) -> Result<List<u32>, AllocError>
     ensures { IfOk result (λ all. all ≡ map (name_number bindings.now.names) names.now) }
 {
     let mut all = List::new(alloc);
@@ -74,7 +73,7 @@ pub fn command_of(
     scope: &Scope,
     bindings: &Bindings,
     form: &ClientLine,
-) -> Result<Option<Command>, Memory>
+) -> Result<Option<Command>, AllocError>
     ensures { IfOk result (λ command. option_to_list command ≡ commands_in scope.now.tables scope.now.bundle bindings.now.names form.now) }
 {
     let command = match form {

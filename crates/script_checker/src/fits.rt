@@ -2,8 +2,9 @@
 ghost use Rattle.std.specs.Prelude.{◌≡◌, ℕ, drop, map, length};
 ghost use Rattle.std.specs.List.{list_any, list_all};
 ghost use Rattle.std.specs.Option.{option_copied};
-ghost use Rattle.rl_defs.specs.Instructions.{fits_width};
-ghost use Rattle.rl_defs.specs.ScriptRules.{fits_cell, numbers_fit, bytes_fit, bits, name_suits, lent_suits, target_suits, suits, args_suit, is_own, names_suit, has_count, keeps_kinds, is_object, kind_of, method_of_call};
+ghost use Rattle.rl_defs.specs.Widths.{fits_width};
+ghost use Rattle.rl_defs.specs.Widths.{bits};
+ghost use Rattle.rl_defs.specs.ScriptRules.{fits_cell, numbers_fit, bytes_fit, name_suits, lent_suits, target_suits, suits, args_suit, is_own, names_suit, has_count, keeps_kinds, is_object, kind_of, method_of_call};
 ghost use Rattle.script_checker.specs.Known.{call_suits};
 
 use crate::bindings::Bindings;

@@ -6,26 +6,25 @@ ghost use Rattle.rl_defs.specs.Interfaces.{place_of};
 ghost use Rattle.rl_defs.specs.NativeShapes.{is_number};
 
 use name_tables::names::Names;
-use rl_defs::Memory;
 use rl_defs::list::List;
 use rl_defs::name::Name;
 use rl_defs::tables::{Kind, MethodRow, StructRow, TraitRow, Width};
-use std::alloc::Global;
+use std::alloc::{AllocError, Global};
 
-/// Adds a name, and gives the place where it stood before. It answers `Memory` too where the names are as many as can be numbered.
-pub fn add(names: &mut Names, name: &Name) -> Result<Option<u32>, Memory>
+/// Adds a name, and gives the place where it stood before. It answers `AllocError` too where the names are as many as can be numbered.
+pub fn add(names: &mut Names, name: &Name) -> Result<Option<u32>, AllocError>
     ensures added { OnOk result (names.new ≡ names.old ++ name.now ∷ []) }
     ensures before { IfOk result (λ place. place ≡ place_of name.now names.old) }
     ensures full { OnErr result (names.new ≡ names.old) }
 {
     if names.len() == u32::MAX {
-        return Err(Memory);
+        return Err(AllocError);
     }
     names.add(name)
 }
 
 /// The names of the structs.
-pub fn struct_names(alloc: Global, structs: &[StructRow]) -> Result<Names, Memory>
+pub fn struct_names(alloc: Global, structs: &[StructRow]) -> Result<Names, AllocError>
     ensures { IfOk result (λ names. names ≡ map (λ s. s.name) structs.now) }
 {
     let mut names = Names::new(alloc);
@@ -36,7 +35,7 @@ pub fn struct_names(alloc: Global, structs: &[StructRow]) -> Result<Names, Memor
 }
 
 /// The names of the traits.
-pub fn trait_names(alloc: Global, traits: &[TraitRow]) -> Result<Names, Memory>
+pub fn trait_names(alloc: Global, traits: &[TraitRow]) -> Result<Names, AllocError>
     ensures { IfOk result (λ names. names ≡ map (λ t. t.name) traits.now) }
 {
     let mut names = Names::new(alloc);
@@ -46,7 +45,7 @@ pub fn trait_names(alloc: Global, traits: &[TraitRow]) -> Result<Names, Memory>
     Ok(names)
 }
 
-fn names_of_methods(alloc: Global, methods: &[MethodRow]) -> Result<Names, Memory>
+fn names_of_methods(alloc: Global, methods: &[MethodRow]) -> Result<Names, AllocError>
     ensures { IfOk result (λ names. names ≡ map (λ m. m.name) methods.now) }
 {
     let mut names = Names::new(alloc);
@@ -57,7 +56,7 @@ fn names_of_methods(alloc: Global, methods: &[MethodRow]) -> Result<Names, Memor
 }
 
 /// The names of the methods of each trait.
-pub fn method_names(alloc: Global, traits: &[TraitRow]) -> Result<List<Names>, Memory>
+pub fn method_names(alloc: Global, traits: &[TraitRow]) -> Result<List<Names>, AllocError>
     ensures { IfOk result (λ all. all ≡ map (λ t. map (λ m. m.name) t.methods) traits.now) }
 {
     let mut all = List::new(alloc);

@@ -2,16 +2,15 @@
 ghost use Rattle.std.specs.Prelude.{◌≡◌, ℕ, ◌≤◌, not, ◌++◌, List, [], length, drop, OnOk, IfOk};
 ghost use Rattle.std.specs.List.{list_any, flat_map};
 ghost use Rattle.std.specs.Option.{option_to_list};
-ghost use Rattle.rl_defs.specs.BundleNames.{names_used, name_passed};
+ghost use Rattle.rl_defs.specs.NameRules.{names_used, name_passed};
 ghost use Rattle.rl_defs.specs.ScriptRules.{is_among, moved_by, lent_by, gone_by, are_distinct, args_of, keeps_owned};
 
 use crate::bindings::Bindings;
 use crate::fits::names_object;
-use rl_defs::Memory;
 use rl_defs::bundle::{ClientLine, ScriptArgText};
 use rl_defs::list::List;
 use rl_defs::name::Name;
-use std::alloc::Global;
+use std::alloc::{AllocError, Global};
 
 // The name that an argument uses.
 fn name_passed(arg: &ScriptArgText) -> Option<Name>
@@ -58,7 +57,7 @@ fn args_of(form: &ClientLine) -> &[ScriptArgText]
     }
 }
 
-fn push(names: &mut List<Name>, name: Option<Name>) -> Result<(), Memory>
+fn push(names: &mut List<Name>, name: Option<Name>) -> Result<(), AllocError>
     ensures { OnOk result (names.new ≡ names.old ++ option_to_list name) }
 {
     match name {
@@ -72,7 +71,7 @@ pub fn names_moved(
     alloc: Global,
     bindings: &Bindings,
     form: &ClientLine,
-) -> Result<List<Name>, Memory>
+) -> Result<List<Name>, AllocError>
     ensures { IfOk result (λ names. names ≡ flat_map (moved_by bindings.now.bound) (args_of form.now)) }
 {
     let mut names = List::new(alloc);
@@ -178,7 +177,7 @@ pub fn keeps_owned(bindings: &Bindings, form: &ClientLine, moved: &[Name]) -> bo
     !uses_gone(bindings, form) && are_distinct(moved) && !are_lent(moved, args_of(form))
 }
 
-fn leave_all(bindings: &mut Bindings, names: &[Name]) -> Result<(), Memory>
+fn leave_all(bindings: &mut Bindings, names: &[Name]) -> Result<(), AllocError>
     ensures { OnOk result (bindings.new ≡ record { names = bindings.old.names; bound = bindings.old.bound; gone = bindings.old.gone ++ names.now }) }
 {
     'each: for name in names {
@@ -188,7 +187,7 @@ fn leave_all(bindings: &mut Bindings, names: &[Name]) -> Result<(), Memory>
 }
 
 /// Notes the objects that the line moves, or drops.
-pub fn leave(bindings: &mut Bindings, form: &ClientLine, moved: &[Name]) -> Result<(), Memory>
+pub fn leave(bindings: &mut Bindings, form: &ClientLine, moved: &[Name]) -> Result<(), AllocError>
     requires { moved.now ≡ flat_map (moved_by bindings.old.bound) (args_of form.now) }
     ensures { OnOk result (bindings.new ≡ record { names = bindings.old.names; bound = bindings.old.bound; gone = bindings.old.gone ++ gone_by bindings.old.bound form.now }) }
 {

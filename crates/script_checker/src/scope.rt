@@ -6,19 +6,18 @@ ghost use Rattle.rl_defs.specs.declared.tables.Width.TheVariants as width;
 ghost use Rattle.rl_defs.specs.NativeShapes.{is_number};
 ghost use Rattle.rl_defs.specs.CodeNames.{struct_number, cells_of, methods_of, method_number, method_named};
 ghost use Rattle.rl_defs.specs.ScriptRules.{target_trait};
-ghost use Rattle.rl_defs.specs.Standing.{target_number};
+ghost use Rattle.rl_defs.specs.LoadOf.{target_number};
 ghost use Rattle.script_checker.specs.Scopes.{without_interfaces};
 
 use crate::names::{are_bytes, method_names, struct_names, trait_names};
 use crate::targets::{Targets, loads_of, shadows_of};
 use name_tables::names::Names;
-use rl_defs::Memory;
 use rl_defs::bundle::{ClientLine, Clients, Numbered, Plan};
 use rl_defs::checked::CheckedDomain;
 use rl_defs::list::List;
 use rl_defs::name::Name;
 use rl_defs::tables::{Kind, MethodRow, Tables};
-use std::alloc::Global;
+use std::alloc::{AllocError, Global};
 use std::marker::Model;
 
 /// A bundle and its tables, with look-ups of its structs, methods and targets. Contracts see the tables and the bundle.
@@ -54,14 +53,14 @@ fn method_at(tables: &Tables, of: u32, number: u32) -> Option<&MethodRow>
 }
 
 impl<'a> Scope<'a> {
-    /// These tables and these parts of a bundle. It answers `Memory` too where the targets are more than can be numbered.
+    /// These tables and these parts of a bundle. It answers `AllocError` too where the targets are more than can be numbered.
     pub fn new(
         alloc: Global,
         tables: &'a Tables,
         domains: &'a List<CheckedDomain>,
         plan: &'a Plan,
         clients: &'a Clients,
-    ) -> Result<Scope<'a>, Memory>
+    ) -> Result<Scope<'a>, AllocError>
         ensures { IfOk result (λ s. s ≡ record { tables = tables.now; bundle = without_interfaces domains.now plan.now clients.now }) }
     {
         let traits = trait_names(alloc, tables.traits.as_slice())?;
@@ -70,7 +69,7 @@ impl<'a> Scope<'a> {
         let loads = loads_of(alloc, &traits, domains, plan)?;
         let shadows = shadows_of(alloc, &loads, plan)?;
         if loads.names.len() > u32::MAX - shadows.names.len() {
-            return Err(Memory);
+            return Err(AllocError);
         }
         Ok(Scope {
             tables,

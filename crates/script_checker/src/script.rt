@@ -6,7 +6,7 @@ ghost use Rattle.rl_defs.specs.declared.LoadFault.TheVariants.{Refused as IsRefu
 ghost use Rattle.rl_defs.specs.CodeNames.{results_of};
 ghost use Rattle.rl_defs.specs.BundleNames.{name_given};
 ghost use Rattle.rl_defs.specs.ScriptRules.{Bound, binds, paired, keeps_kinds, names_suit, moved_by, args_of};
-ghost use Rattle.rl_defs.specs.Standing.{commands_in};
+ghost use Rattle.rl_defs.specs.LoadOf.{commands_in};
 ghost use Rattle.script_checker.specs.Known.{nothing, after, with_names};
 ghost use Rattle.script_checker.specs.Verdicts.{broken, refusal_at, verdict, commands_behind, Says};
 
@@ -15,22 +15,16 @@ use crate::commands::command_of;
 use crate::fits::{keeps_kinds, method_of_call};
 use crate::owned::{keeps_owned, leave, names_moved};
 use crate::scope::Scope;
+use rl_defs::LoadFault;
 use rl_defs::bundle::{ClientLine, Numbered};
 use rl_defs::list::List;
 use rl_defs::load::Command;
 use rl_defs::name::Name;
 use rl_defs::tables::{Kind, MethodRow};
-use rl_defs::{LoadFault, Memory, Refusal};
-use std::alloc::Global;
-
-fn refused(line: u32, rule: u8) -> LoadFault
-    ensures { result ≡ IsRefused (record { line = line; rule = rule }) }
-{
-    LoadFault::Refused(Refusal { line, rule })
-}
+use std::alloc::{AllocError, Global};
 
 // Binds names to the results of a method, as many as there are of both.
-fn bind_all(bindings: &mut Bindings, names: &[Name], kinds: &[Kind]) -> Result<(), Memory>
+fn bind_all(bindings: &mut Bindings, names: &[Name], kinds: &[Kind]) -> Result<(), AllocError>
     requires { length names.now ≡ length kinds.now }
     ensures { OnOk result (bindings.new ≡ with_names bindings.old names.now (paired names.now kinds.now)) }
 {
@@ -44,7 +38,7 @@ fn bind_results(
     bindings: &mut Bindings,
     names: &[Name],
     method: Option<&MethodRow>,
-) -> Result<(), Memory>
+) -> Result<(), AllocError>
     requires { names_suit (results_of (option_copied method)) names.now ≡ true }
     ensures { OnOk result (bindings.new ≡ with_names bindings.old names.now (paired names.now (results_of (option_copied method.entry)))) }
 {
@@ -60,7 +54,7 @@ fn bind_results(
 }
 
 // Binds the names of a line.
-fn bind(scope: &Scope, bindings: &mut Bindings, form: &ClientLine) -> Result<(), Memory>
+fn bind(scope: &Scope, bindings: &mut Bindings, form: &ClientLine) -> Result<(), AllocError>
     requires { (bound : List Bound) × (keeps_kinds scope.now.tables scope.now.bundle bound form.now ≡ true) }
     ensures { OnOk result (bindings.new ≡ with_names bindings.old (name_given form.now) (binds scope.now.tables scope.now.bundle form.now)) }
 {
@@ -88,7 +82,7 @@ fn go_on(
     bindings: &mut Bindings,
     form: &ClientLine,
     moved: &[Name],
-) -> Result<(), Memory>
+) -> Result<(), AllocError>
     requires moved { moved.now ≡ flat_map (moved_by bindings.old.bound) (args_of form.now) }
     requires kinds { keeps_kinds scope.now.tables scope.now.bundle bindings.old.bound form.now ≡ true }
     ensures { OnOk result (bindings.new ≡ after scope.now.tables scope.now.bundle bindings.old form.now) }
@@ -107,21 +101,17 @@ fn step(
     ensures { Says (refusal_at line.now.line (broken scope.now.tables scope.now.bundle bindings.old line.now.form)) (λ _. bindings.new ≡ after scope.now.tables scope.now.bundle bindings.old line.now.form) result }
 {
     if !keeps_kinds(scope, bindings, &line.form) {
-        return Err(refused(line.line, 50));
+        return Err(LoadFault::refused(line.line, 50));
     }
-    let Ok(moved) = names_moved(alloc, bindings, &line.form) else {
-        return Err(LoadFault::Memory);
-    };
+    let moved = names_moved(alloc, bindings, &line.form)?;
     if !keeps_owned(bindings, &line.form, moved.as_slice()) {
-        return Err(refused(line.line, 51));
+        return Err(LoadFault::refused(line.line, 51));
     }
-    match go_on(scope, bindings, &line.form, moved.as_slice()) {
-        Ok(()) => Ok(()),
-        Err(_) => Err(LoadFault::Memory),
-    }
+    go_on(scope, bindings, &line.form, moved.as_slice())?;
+    Ok(())
 }
 
-fn push(commands: &mut List<Command>, command: Option<Command>) -> Result<(), Memory>
+fn push(commands: &mut List<Command>, command: Option<Command>) -> Result<(), AllocError>
     ensures { OnOk result (commands.new ≡ commands.old ++ option_to_list command) }
 {
     match command {
@@ -139,13 +129,9 @@ fn put_command(
 ) -> Result<(), LoadFault>
     ensures { Says None (λ _. commands.new ≡ commands.old ++ commands_in scope.now.tables scope.now.bundle bindings.now.names form.now) result }
 {
-    let Ok(command) = command_of(alloc, scope, bindings, form) else {
-        return Err(LoadFault::Memory);
-    };
-    match push(commands, command) {
-        Ok(()) => Ok(()),
-        Err(_) => Err(LoadFault::Memory),
-    }
+    let command = command_of(alloc, scope, bindings, form)?;
+    push(commands, command)?;
+    Ok(())
 }
 
 /// The commands of a script, or the first line that rule 50 or 51 refuses, with the lower one that it breaks.
@@ -159,14 +145,8 @@ pub fn check_script(
     let mut bindings = Bindings::new(alloc);
     let mut commands = List::new(alloc);
     'each: for line in script {
-        match step(alloc, scope, &mut bindings, line) {
-            Ok(()) => {}
-            Err(fault) => return Err(fault),
-        }
-        match put_command(alloc, scope, &bindings, &line.form, &mut commands) {
-            Ok(()) => {}
-            Err(_) => return Err(LoadFault::Memory),
-        }
+        step(alloc, scope, &mut bindings, line)?;
+        put_command(alloc, scope, &bindings, &line.form, &mut commands)?;
     }
     Ok(commands)
 }

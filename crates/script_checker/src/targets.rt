@@ -2,22 +2,20 @@
 ghost use Rattle.std.specs.Prelude.{◌≡◌, ℕ, true, List, [], ◌∷◌, ◌++◌, map, Some, OnOk, IfOk};
 ghost use Rattle.rl_defs.specs.Interfaces.{place_of};
 ghost use Rattle.rl_defs.specs.Domains.{trait_name, trait_of_form};
-ghost use Rattle.rl_defs.specs.CodeFits.{IsOneDomain};
+ghost use Rattle.rl_defs.specs.DomainParts.{IsOneDomain};
 ghost use Rattle.rl_defs.specs.DomainParts.{begins_domain};
-ghost use Rattle.rl_defs.specs.BundleNames.{given_by, names_of, domain_given, load_given, domains_loaded};
+ghost use Rattle.rl_defs.specs.BundleNames.{given_by, names_of, domain_given, load_given, domains_loaded, shadow_given, shadowed as shadows_loaded};
 ghost use Rattle.rl_defs.specs.BundleOrder.{text_of};
-ghost use Rattle.rl_defs.specs.Standing.{shadow_given};
-ghost use Rattle.script_checker.specs.Scopes.{shadows_loaded, trait_in, number_at, number_of, all_lines};
+ghost use Rattle.script_checker.specs.Scopes.{trait_in, number_at, number_of, all_lines};
 
 use crate::names::add;
 use name_tables::names::Names;
-use rl_defs::Memory;
 use rl_defs::bundle::{Numbered, Plan, PlanLine};
 use rl_defs::checked::CheckedDomain;
 use rl_defs::code::DomainLine;
 use rl_defs::list::List;
 use rl_defs::name::Name;
-use std::alloc::Global;
+use std::alloc::{AllocError, Global};
 
 /// Domains, loads or shadows: their names, and the number of the trait of each.
 #[derive(Drop)]
@@ -57,7 +55,7 @@ impl Targets {
 }
 
 // Adds one with its trait.
-fn put(targets: &mut Targets, name: &Name, of: u32) -> Result<(), Memory>
+fn put(targets: &mut Targets, name: &Name, of: u32) -> Result<(), AllocError>
     ensures names { OnOk result (targets.new.names ≡ targets.old.names ++ name.now ∷ []) }
     ensures traits { OnOk result (targets.new.traits ≡ targets.old.traits ++ of ∷ []) }
 {
@@ -66,7 +64,7 @@ fn put(targets: &mut Targets, name: &Name, of: u32) -> Result<(), Memory>
 }
 
 // Adds a domain by its first line, which names it and its trait.
-fn put_first(domains: &mut Targets, traits: &Names, form: &DomainLine) -> Result<(), Memory>
+fn put_first(domains: &mut Targets, traits: &Names, form: &DomainLine) -> Result<(), AllocError>
     requires { begins_domain form.now ≡ true }
     ensures names { OnOk result (domains.new.names ≡ domains.old.names ++ domain_given form.now) }
     ensures traits { OnOk result (domains.new.traits ≡ domains.old.traits ++ number_of (trait_of_form form.now []) traits.now ∷ []) }
@@ -82,7 +80,7 @@ fn put_domain(
     domains: &mut Targets,
     traits: &Names,
     lines: &[Numbered<DomainLine>],
-) -> Result<(), Memory>
+) -> Result<(), AllocError>
     requires { IsOneDomain lines.now }
     ensures names { OnOk result (domains.new.names ≡ domains.old.names ++ names_of (given_by domain_given lines.now)) }
     ensures traits { OnOk result (domains.new.traits ≡ domains.old.traits ++ number_of (trait_name lines.now) traits.now ∷ []) }
@@ -94,7 +92,11 @@ fn put_domain(
 }
 
 // The domains, with their traits.
-fn domains_of(alloc: Global, traits: &Names, domains: &[CheckedDomain]) -> Result<Targets, Memory>
+fn domains_of(
+    alloc: Global,
+    traits: &Names,
+    domains: &[CheckedDomain],
+) -> Result<Targets, AllocError>
     ensures names { IfOk result (λ t. t.names ≡ names_of (given_by domain_given (all_lines (map text_of domains.now)))) }
     ensures traits { IfOk result (λ t. t.traits ≡ map (λ d. number_of (trait_name d.lines) traits.now) (map text_of domains.now)) }
 {
@@ -105,7 +107,7 @@ fn domains_of(alloc: Global, traits: &Names, domains: &[CheckedDomain]) -> Resul
     Ok(targets)
 }
 
-fn put_load(loads: &mut Targets, domains: &Targets, form: &PlanLine) -> Result<(), Memory>
+fn put_load(loads: &mut Targets, domains: &Targets, form: &PlanLine) -> Result<(), AllocError>
     ensures names { OnOk result (loads.new.names ≡ loads.old.names ++ load_given form.now) }
     ensures traits { OnOk result (loads.new.traits ≡ loads.old.traits ++ map (λ d. number_at domains.now.traits (place_of d domains.now.names)) (domains_loaded form.now)) }
 {
@@ -115,7 +117,7 @@ fn put_load(loads: &mut Targets, domains: &Targets, form: &PlanLine) -> Result<(
     }
 }
 
-fn put_shadow(shadows: &mut Targets, loads: &Targets, form: &PlanLine) -> Result<(), Memory>
+fn put_shadow(shadows: &mut Targets, loads: &Targets, form: &PlanLine) -> Result<(), AllocError>
     ensures names { OnOk result (shadows.new.names ≡ shadows.old.names ++ shadow_given form.now) }
     ensures traits { OnOk result (shadows.new.traits ≡ shadows.old.traits ++ map (λ d. number_at loads.now.traits (place_of d loads.now.names)) (shadows_loaded form.now)) }
 {
@@ -126,7 +128,7 @@ fn put_shadow(shadows: &mut Targets, loads: &Targets, form: &PlanLine) -> Result
 }
 
 // The loads, with the traits of their domains.
-fn loads_among(alloc: Global, domains: &Targets, plan: &Plan) -> Result<Targets, Memory>
+fn loads_among(alloc: Global, domains: &Targets, plan: &Plan) -> Result<Targets, AllocError>
     ensures names { IfOk result (λ t. t.names ≡ names_of (given_by load_given plan.now.lines)) }
     ensures traits { IfOk result (λ t. t.traits ≡ map (λ d. number_at domains.now.traits (place_of d domains.now.names)) (names_of (given_by domains_loaded plan.now.lines))) }
 {
@@ -144,7 +146,7 @@ pub fn loads_of(
     traits: &Names,
     domains: &List<CheckedDomain>,
     plan: &Plan,
-) -> Result<Targets, Memory>
+) -> Result<Targets, AllocError>
     ensures names { IfOk result (λ t. t.names ≡ names_of (given_by load_given plan.now.lines)) }
     ensures traits { IfOk result (λ t. t.traits ≡ map (trait_in traits.now (map text_of domains.now)) (names_of (given_by domains_loaded plan.now.lines))) }
 {
@@ -153,7 +155,7 @@ pub fn loads_of(
 }
 
 /// The shadows of a plan, each with the trait of its load.
-pub fn shadows_of(alloc: Global, loads: &Targets, plan: &Plan) -> Result<Targets, Memory>
+pub fn shadows_of(alloc: Global, loads: &Targets, plan: &Plan) -> Result<Targets, AllocError>
     ensures names { IfOk result (λ t. t.names ≡ names_of (given_by shadow_given plan.now.lines)) }
     ensures traits { IfOk result (λ t. t.traits ≡ map (λ d. number_at loads.now.traits (place_of d loads.now.names)) (names_of (given_by shadows_loaded plan.now.lines))) }
 {

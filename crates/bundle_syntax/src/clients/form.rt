@@ -5,16 +5,15 @@ ghost use Rattle.rl_text.specs.Many.{all_at};
 ghost use Rattle.rl_text.specs.Lexemes.{token_of};
 ghost use Rattle.rl_text.specs.Whole.{GivesWhole};
 ghost use Rattle.bundle_syntax.specs.ClientVerbs.{verb_text, likely_verb, verb_of};
-ghost use Rattle.bundle_syntax.specs.ClientLines.{client_at, let_at, text_line_at, show_at, drop_at, kill_at, operands_at, by_word_at, word_line_at, form_at, other_line_at, arg_at, several_args_at, args_at, names_at, callee_at, behind_callee_at, call_line_at, begins_call, line_at};
+ghost use Rattle.bundle_syntax.specs.ClientLines.{client_at, let_at, text_line_at, show_at, drop_at, kill_at, operands_at, by_word_at, word_line_at, form_at, other_line_at, several_args_at, args_at, names_at, callee_at, behind_callee_at, call_line_at, line_at};
 
-use crate::clients::lookahead::Lookahead;
+use crate::clients::arg::OneArg;
 use crate::list::{OneName, OneNumber};
 use rl_defs::bundle::{ClientLine, ScriptArgText};
 use rl_defs::lexeme::Mark;
 use rl_defs::list::List;
 use rl_defs::name::Name;
 use rl_text::cursor::{Cursor, Stop};
-use rl_text::lexeme::Lexeme;
 use rl_text::list::{list, list_to_end};
 use std::alloc::Global;
 
@@ -101,10 +100,8 @@ fn new_object(alloc: Global, left: &mut Cursor<'_>) -> Result<ClientLine, Stop>
 fn copied(alloc: Global, bytes: &[u8]) -> Result<List<u8>, Stop>
     ensures { Gives (λ l. l) result [] (Some (bytes.now, [])) }
 {
-    match bytes.to_vec(alloc) {
-        Ok(all) => Ok(List::from_vec(all)),
-        Err(_) => Err(Stop::Memory),
-    }
+    let all = bytes.to_vec(alloc)?;
+    Ok(List::from_vec(all))
 }
 
 // `text NAME = STRUCT TEXT`, behind its word.
@@ -201,40 +198,18 @@ fn other_line(alloc: Global, left: &mut Cursor<'_>) -> Result<ClientLine, Stop>
     Ok(line)
 }
 
-// Arguments, each behind a comma.
-fn behind_commas(alloc: Global, left: &mut Lookahead<'_>) -> Result<Vec<ScriptArgText>, Stop>
-    ensures { Gives (λ v. v.items) result left.new (all_at arg_at left.old) }
-{
-    let mut all = Vec::new(alloc);
-    'items: while left.skip_mark(Mark::Comma) {
-        let item = left.arg()?;
-        match all.push(item) {
-            Ok(()) => {}
-            Err(_) => return Err(Stop::Memory),
-        }
-    }
-    Ok(all)
-}
-
 // One argument or more, and the `)`.
-#[tactic(auto, unfolding(rl_text::specs::Many::list_at))]
-fn several_args(alloc: Global, left: &mut Lookahead<'_>) -> Result<List<ScriptArgText>, Stop>
+fn several_args(alloc: Global, left: &mut Cursor<'_>) -> Result<List<ScriptArgText>, Stop>
     ensures { Gives (λ l. l) result left.new (several_args_at left.old) }
 {
-    let first = left.arg()?;
-    let mut all = behind_commas(alloc, left)?;
-    if !left.skip_mark(Mark::CloseParen) {
-        return Err(Stop::NoForm);
-    }
-    match all.insert(0, first) {
-        Ok(()) => Ok(List::from_vec(all)),
-        Err(_) => Err(Stop::Memory),
-    }
+    let args = list::<OneArg>(alloc, left)?;
+    left.mark(Mark::CloseParen)?;
+    Ok(args)
 }
 
 // The arguments of a call, behind the `(`, and the `)`.
 #[tactic(auto, unfolding(crate::specs::ClientLines::args_at))]
-fn args_of(alloc: Global, left: &mut Lookahead<'_>) -> Result<List<ScriptArgText>, Stop>
+fn args_of(alloc: Global, left: &mut Cursor<'_>) -> Result<List<ScriptArgText>, Stop>
     ensures { Gives (λ l. l) result left.new (args_at left.old) }
 {
     if left.skip_mark(Mark::CloseParen) {
@@ -261,9 +236,6 @@ pub(crate) struct Called {
     method: Name,
 }
 
-/// How many tokens stand before the arguments of a call.
-const BEFORE_ARGS: usize = 5;
-
 // `call TARGET.METHOD(`
 #[tactic(auto, unfolding(crate::specs::ClientLines::callee_at))]
 fn callee(left: &mut Cursor<'_>) -> Result<Called, Stop>
@@ -279,18 +251,11 @@ fn callee(left: &mut Cursor<'_>) -> Result<Called, Stop>
 
 // A line that is a call, behind its `(`.
 #[tactic(auto, unfolding(crate::specs::ClientLines::behind_callee_at))]
-fn behind_callee(
-    alloc: Global,
-    callee: Called,
-    line: &[u8],
-    behind: &[Lexeme],
-) -> Result<ClientLine, Stop>
-    ensures { GivesWhole result (behind_callee_at callee (map (token_of line.now) behind.now)) }
+fn behind_callee(alloc: Global, callee: Called, left: &mut Cursor<'_>) -> Result<ClientLine, Stop>
+    ensures { GivesWhole result (behind_callee_at callee left.old) }
 {
-    let mut ahead = Lookahead::new(line, behind);
-    let args = args_of(alloc, &mut ahead)?;
-    let mut left = ahead.cursor();
-    let names = names_of(alloc, &mut left)?;
+    let args = args_of(alloc, left)?;
+    let names = names_of(alloc, left)?;
     left.end()?;
     Ok(ClientLine::Call {
         target: callee.target,
@@ -302,33 +267,20 @@ fn behind_callee(
 
 // `call TARGET.METHOD(SARG, ..) -> NAME, ..`
 #[tactic(auto, unfolding(crate::specs::ClientLines::call_line_at))]
-fn call_line(alloc: Global, line: &[u8], all: &[Lexeme]) -> Result<ClientLine, Stop>
-    ensures { GivesWhole result (call_line_at (map (token_of line.now) all.now)) }
+fn call_line(alloc: Global, left: &mut Cursor<'_>) -> Result<ClientLine, Stop>
+    ensures { GivesWhole result (call_line_at left.old) }
 {
-    let mut left = Cursor::new(line, all);
-    let callee = callee(&mut left)?;
-    let (_, behind) = all.split_at(BEFORE_ARGS);
-    behind_callee(alloc, callee, line, behind)
+    let callee = callee(left)?;
+    behind_callee(alloc, callee, left)
 }
 
-// Whether a line begins with `call`.
-fn begins_call(all: &[Lexeme]) -> bool
-    ensures { (line : List ℕ) → result ≡ begins_call (map (token_of line) all.now) }
-{
-    match all {
-        [Lexeme::Word(word), ..] => word.bytes() == b"call".as_slice(),
-        _ => false,
-    }
-}
-
-/// The form that all tokens of a line spell, by the line's bytes and its lexemes.
+/// The form that all tokens of a line spell.
 #[tactic(auto, unfolding(crate::specs::ClientLines::line_at))]
-pub(crate) fn whole_form(alloc: Global, line: &[u8], all: &[Lexeme]) -> Result<ClientLine, Stop>
-    ensures { GivesWhole result (line_at (map (token_of line.now) all.now)) }
+pub(crate) fn whole_form(alloc: Global, left: &mut Cursor<'_>) -> Result<ClientLine, Stop>
+    ensures { GivesWhole result (line_at left.old) }
 {
-    if begins_call(all) {
-        return call_line(alloc, line, all);
+    if left.begins_word(b"call") {
+        return call_line(alloc, left);
     }
-    let mut left = Cursor::new(line, all);
-    other_line(alloc, &mut left)
+    other_line(alloc, left)
 }

@@ -6,12 +6,11 @@ ghost use Rattle.rl_defs.specs.BundleParts.{client_part, FailsClients};
 ghost use Rattle.rl_text.specs.Places.{text_of, AreNumbered, first_number};
 
 use crate::clients::form::whole_form;
-use crate::part::{PartLine, read_lines};
 use rl_defs::LoadFault;
 use rl_defs::bundle::{ClientLine, Clients};
-use rl_text::cursor::Stop;
-use rl_text::lexeme::Lexeme;
+use rl_text::cursor::{Cursor, Stop};
 use rl_text::line::Line;
+use rl_text::part::{PartLine, read_lines};
 use std::alloc::Global;
 
 // Whether a client is open.
@@ -21,10 +20,14 @@ pub(crate) enum Block {
     InClient,
 }
 
-impl PartLine for ClientLine {
+struct ClientPart;
+
+impl PartLine for ClientPart {
     ghost use Rattle.rl_defs.specs.BundleParts.{ClientBlock, client_part};
     ghost use Rattle.bundle_syntax.specs.ClientLines.{line_at};
     ghost use Rattle.bundle_syntax.specs.Blocks.{client_block};
+
+    type Form = ClientLine;
 
     type Block = Block;
 
@@ -47,13 +50,13 @@ impl PartLine for ClientLine {
         }
     }
 
-    fn after(&self, block: Block) -> Option<Block> {
+    fn after(block: Block, form: &ClientLine) -> Option<Block> {
         match block {
-            Block::Outside => match self {
+            Block::Outside => match form {
                 ClientLine::Client(_) => Some(Block::InClient),
                 _ => None,
             },
-            Block::InClient => match self {
+            Block::InClient => match form {
                 ClientLine::Client(_) => None,
                 ClientLine::Close => Some(Block::Outside),
                 _ => Some(Block::InClient),
@@ -61,8 +64,8 @@ impl PartLine for ClientLine {
         }
     }
 
-    fn read(alloc: Global, line: &[u8], all: &[Lexeme]) -> Result<ClientLine, Stop> {
-        whole_form(alloc, line, all)
+    fn read(alloc: Global, left: &mut Cursor<'_>) -> Result<ClientLine, Stop> {
+        whole_form(alloc, left)
     }
 }
 
@@ -75,8 +78,6 @@ pub fn read_clients(alloc: Global, bytes: &[u8], lines: &[Line]) -> Result<Clien
     ensures { let first = first_number lines.now in let texts = map (text_of bytes.now) lines.now in
         Answers (FailsClients first texts) (λ clients. StandFor client_part first texts clients.lines) result }
 {
-    match read_lines::<ClientLine>(alloc, bytes, lines) {
-        Ok(lines) => Ok(Clients { lines }),
-        Err(fault) => Err(fault),
-    }
+    let lines = read_lines::<ClientPart>(alloc, bytes, lines)?;
+    Ok(Clients { lines })
 }

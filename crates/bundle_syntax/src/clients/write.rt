@@ -8,26 +8,25 @@ ghost use Rattle.rl_defs.specs.BundleForms.{spell_arg, spell_names, spell_client
 ghost use Rattle.rl_defs.specs.Tokens as t;
 ghost use Rattle.bundle_syntax.specs.ClientVerbs.{verb_text};
 ghost use Rattle.bundle_syntax.specs.ClientCanonical.{depth_of, write_clients};
-ghost use Rattle.bundle_syntax.specs.Writable.{IsReadAgain, IsAccepted};
+ghost use Rattle.bundle_syntax.specs.Writable.{IsReadAgain, NothingRefused};
 
 use crate::clients::form::{Verb, verb_text};
 use crate::list::{put_names, put_numbers};
 use crate::written::{Written, put_lines};
-use rl_defs::Memory;
 use rl_defs::bundle::{ClientLine, Clients, ScriptArgText};
 use rl_defs::lexeme::Mark;
 use rl_defs::name::Name;
 use rl_text::render::Spelling;
-use std::alloc::Global;
+use std::alloc::{AllocError, Global};
 
 // The word that a line begins with.
-fn put_verb(out: &mut Spelling<'_>, verb: Verb) -> Result<(), Memory>
+fn put_verb(out: &mut Spelling<'_>, verb: Verb) -> Result<(), AllocError>
     ensures { OnOk result (out.new ≡ out.old ++ t.Name (verb_text verb) ∷ []) }
 {
     out.word(verb_text(verb))
 }
 
-fn put_client(out: &mut Spelling<'_>, name: Name) -> Result<(), Memory>
+fn put_client(out: &mut Spelling<'_>, name: Name) -> Result<(), AllocError>
     ensures { OnOk result (out.new ≡ out.old ++ spell_client (client.Client name)) }
 {
     put_verb(out, Verb::Client)?;
@@ -36,8 +35,9 @@ fn put_client(out: &mut Spelling<'_>, name: Name) -> Result<(), Memory>
 }
 
 // `let NAME = new STRUCT`
-fn put_new(out: &mut Spelling<'_>, name: Name, ty: Name) -> Result<(), Memory>
-    ensures { OnOk result (out.new ≡ out.old ++ (t.Name (codes "let") ∷ t.Name name ∷ t.Sign m.Equals ∷ t.Name (codes "new") ∷ t.Name ty ∷ [])) }
+fn put_new(out: &mut Spelling<'_>, name: Name, ty: Name) -> Result<(), AllocError>
+    ensures { OnOk result (out.new ≡ out.old
+        ++ (t.Name (codes "let") ∷ t.Name name ∷ t.Sign m.Equals ∷ t.Name (codes "new") ∷ t.Name ty ∷ [])) }
 {
     put_verb(out, Verb::Let)?;
     out.name(name)?;
@@ -46,14 +46,19 @@ fn put_new(out: &mut Spelling<'_>, name: Name, ty: Name) -> Result<(), Memory>
     out.name(ty)
 }
 
-fn put_let(out: &mut Spelling<'_>, name: Name, ty: Name, values: &[u64]) -> Result<(), Memory>
+fn put_let(out: &mut Spelling<'_>, name: Name, ty: Name, values: &[u64]) -> Result<(), AllocError>
     ensures { OnOk result (out.new ≡ out.old ++ spell_client (client.Let name ty values.now)) }
 {
     put_new(out, name, ty)?;
     put_numbers(out, values)
 }
 
-fn put_text<'a>(out: &mut Spelling<'a>, name: Name, ty: Name, bytes: &'a [u8]) -> Result<(), Memory>
+fn put_text<'a>(
+    out: &mut Spelling<'a>,
+    name: Name,
+    ty: Name,
+    bytes: &'a [u8],
+) -> Result<(), AllocError>
     ensures { OnOk result (out.new ≡ out.old ++ spell_client (client.Text name ty bytes.now)) }
 {
     put_verb(out, Verb::Text)?;
@@ -63,7 +68,7 @@ fn put_text<'a>(out: &mut Spelling<'a>, name: Name, ty: Name, bytes: &'a [u8]) -
     out.text(bytes)
 }
 
-fn put_arg(out: &mut Spelling<'_>, arg: &ScriptArgText) -> Result<(), Memory>
+fn put_arg(out: &mut Spelling<'_>, arg: &ScriptArgText) -> Result<(), AllocError>
     ensures { OnOk result (out.new ≡ out.old ++ spell_arg arg.now) }
 {
     match arg {
@@ -81,7 +86,7 @@ fn put_arg(out: &mut Spelling<'_>, arg: &ScriptArgText) -> Result<(), Memory>
 }
 
 // Arguments, a comma before each.
-fn put_more_args(out: &mut Spelling<'_>, args: &[ScriptArgText]) -> Result<(), Memory>
+fn put_more_args(out: &mut Spelling<'_>, args: &[ScriptArgText]) -> Result<(), AllocError>
     ensures { OnOk result (out.new ≡ out.old ++ spell_more spell_arg args.now) }
 {
     'arguments: for arg in args {
@@ -92,7 +97,7 @@ fn put_more_args(out: &mut Spelling<'_>, args: &[ScriptArgText]) -> Result<(), M
 }
 
 // Arguments, a comma between two of them.
-fn put_args(out: &mut Spelling<'_>, args: &[ScriptArgText]) -> Result<(), Memory>
+fn put_args(out: &mut Spelling<'_>, args: &[ScriptArgText]) -> Result<(), AllocError>
     ensures { OnOk result (out.new ≡ out.old ++ spell_some spell_arg args.now) }
 {
     match args {
@@ -105,8 +110,9 @@ fn put_args(out: &mut Spelling<'_>, args: &[ScriptArgText]) -> Result<(), Memory
 }
 
 // `call TARGET.METHOD(`
-fn put_callee(out: &mut Spelling<'_>, target: Name, method: Name) -> Result<(), Memory>
-    ensures { OnOk result (out.new ≡ out.old ++ (t.Name (codes "call") ∷ t.Name target ∷ t.Sign m.Dot ∷ t.Name method ∷ t.Sign m.OpenParen ∷ [])) }
+fn put_callee(out: &mut Spelling<'_>, target: Name, method: Name) -> Result<(), AllocError>
+    ensures { OnOk result (out.new ≡ out.old
+        ++ (t.Name (codes "call") ∷ t.Name target ∷ t.Sign m.Dot ∷ t.Name method ∷ t.Sign m.OpenParen ∷ [])) }
 {
     out.word(b"call")?;
     out.name(target)?;
@@ -116,7 +122,7 @@ fn put_callee(out: &mut Spelling<'_>, target: Name, method: Name) -> Result<(), 
 }
 
 // The names that a call binds, with their `->`, or nothing.
-fn put_bound(out: &mut Spelling<'_>, names: &[Name]) -> Result<(), Memory>
+fn put_bound(out: &mut Spelling<'_>, names: &[Name]) -> Result<(), AllocError>
     ensures { OnOk result (out.new ≡ out.old ++ spell_names names.now) }
 {
     if names.is_empty() {
@@ -132,7 +138,7 @@ fn put_call(
     method: Name,
     args: &[ScriptArgText],
     names: &[Name],
-) -> Result<(), Memory>
+) -> Result<(), AllocError>
     ensures { OnOk result (out.new ≡ out.old ++ spell_client (client.Call target method args.now names.now)) }
 {
     put_callee(out, target, method)?;
@@ -142,7 +148,7 @@ fn put_call(
 }
 
 // A word and a name.
-fn put_named(out: &mut Spelling<'_>, verb: Verb, name: Name) -> Result<(), Memory>
+fn put_named(out: &mut Spelling<'_>, verb: Verb, name: Name) -> Result<(), AllocError>
     ensures { OnOk result (out.new ≡ out.old ++ (t.Name (verb_text verb) ∷ t.Name name ∷ [])) }
 {
     put_verb(out, verb)?;
@@ -157,7 +163,7 @@ impl Written for ClientLine {
 
     ghost depth_of = { depth_of };
 
-    fn put<'a>(&'a self, out: &mut Spelling<'a>) -> Result<(), Memory> {
+    fn put<'a>(&'a self, out: &mut Spelling<'a>) -> Result<(), AllocError> {
         match self {
             ClientLine::Client(name) => put_client(out, *name),
             ClientLine::Let { name, ty, values } => put_let(out, *name, *ty, values.as_slice()),
@@ -185,10 +191,10 @@ impl Written for ClientLine {
 }
 
 /// The canonical text of clients: each line with four blanks where a client is open round it, and a line feed.
-pub fn write_clients(alloc: Global, clients: &Clients) -> Result<Vec<u8>, Memory>
+pub fn write_clients(alloc: Global, clients: &Clients) -> Result<Vec<u8>, AllocError>
     ensures canonical { IfOk result (λ v. v.items ≡ write_clients clients.now.lines) }
     ensures again { IfOk result (λ v. IsReadAgain clients.now.lines v.items) }
-    ensures accepted { IfOk result (λ v. IsAccepted clients.now.lines v.items) }
+    ensures accepted { IfOk result (λ v. NothingRefused clients.now.lines v.items) }
 {
     let mut bytes = Vec::new(alloc);
     put_lines(alloc, &mut bytes, clients.lines.as_slice())?;

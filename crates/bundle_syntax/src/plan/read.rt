@@ -5,13 +5,12 @@ ghost use Rattle.rl_defs.specs.Parts.{StandFor};
 ghost use Rattle.rl_defs.specs.BundleParts.{plan_part, FailsPlan};
 ghost use Rattle.rl_text.specs.Places.{text_of, AreNumbered, first_number};
 
-use crate::part::{PartLine, read_lines};
 use crate::plan::form::whole_form;
 use rl_defs::LoadFault;
 use rl_defs::bundle::{Plan, PlanLine};
 use rl_text::cursor::{Cursor, Stop};
-use rl_text::lexeme::Lexeme;
 use rl_text::line::Line;
+use rl_text::part::{PartLine, read_lines};
 use std::alloc::Global;
 
 // Lines of the plan stand in any order.
@@ -20,10 +19,14 @@ pub(crate) enum Block {
     Anywhere,
 }
 
-impl PartLine for PlanLine {
+struct PlanPart;
+
+impl PartLine for PlanPart {
     ghost use Rattle.rl_defs.specs.BundleParts.{PlanBlock, plan_part};
     ghost use Rattle.bundle_syntax.specs.PlanLines.{line_at};
     ghost use Rattle.bundle_syntax.specs.Blocks.{plan_block};
+
+    type Form = PlanLine;
 
     type Block = Block;
 
@@ -45,13 +48,12 @@ impl PartLine for PlanLine {
         }
     }
 
-    fn after(&self, block: Block) -> Option<Block> {
+    fn after(block: Block, _form: &PlanLine) -> Option<Block> {
         Some(block)
     }
 
-    fn read(alloc: Global, line: &[u8], all: &[Lexeme]) -> Result<PlanLine, Stop> {
-        let mut left = Cursor::new(line, all);
-        whole_form(alloc, &mut left)
+    fn read(alloc: Global, left: &mut Cursor<'_>) -> Result<PlanLine, Stop> {
+        whole_form(alloc, left)
     }
 }
 
@@ -63,8 +65,6 @@ pub fn read_plan(alloc: Global, bytes: &[u8], lines: &[Line]) -> Result<Plan, Lo
     ensures { let first = first_number lines.now in let texts = map (text_of bytes.now) lines.now in
         Answers (FailsPlan first texts) (λ plan. StandFor plan_part first texts plan.lines) result }
 {
-    match read_lines::<PlanLine>(alloc, bytes, lines) {
-        Ok(lines) => Ok(Plan { lines }),
-        Err(fault) => Err(fault),
-    }
+    let lines = read_lines::<PlanPart>(alloc, bytes, lines)?;
+    Ok(Plan { lines })
 }

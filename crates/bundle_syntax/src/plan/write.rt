@@ -10,21 +10,20 @@ ghost use Rattle.bundle_syntax.specs.Writable.{IsPlanAgain};
 use crate::list::put_names;
 use crate::plan::form::{Verb, verb_text};
 use crate::written::{Written, put_lines};
-use rl_defs::Memory;
 use rl_defs::bundle::{Plan, PlanLine};
 use rl_defs::lexeme::Mark;
 use rl_defs::name::Name;
 use rl_text::render::Spelling;
-use std::alloc::Global;
+use std::alloc::{AllocError, Global};
 
 // The word that a line begins with.
-fn put_verb(out: &mut Spelling<'_>, verb: Verb) -> Result<(), Memory>
+fn put_verb(out: &mut Spelling<'_>, verb: Verb) -> Result<(), AllocError>
     ensures { OnOk result (out.new ≡ out.old ++ t.Name (verb_text verb) ∷ []) }
 {
     out.word(verb_text(verb))
 }
 
-fn put_load(out: &mut Spelling<'_>, name: Name, domain: Name) -> Result<(), Memory>
+fn put_load(out: &mut Spelling<'_>, name: Name, domain: Name) -> Result<(), AllocError>
     ensures { OnOk result (out.new ≡ out.old ++ spell_plan (plan.Load name domain)) }
 {
     put_verb(out, Verb::Load)?;
@@ -33,7 +32,12 @@ fn put_load(out: &mut Spelling<'_>, name: Name, domain: Name) -> Result<(), Memo
     out.name(domain)
 }
 
-fn put_bind(out: &mut Spelling<'_>, load: Name, import: Name, target: Name) -> Result<(), Memory>
+fn put_bind(
+    out: &mut Spelling<'_>,
+    load: Name,
+    import: Name,
+    target: Name,
+) -> Result<(), AllocError>
     ensures { OnOk result (out.new ≡ out.old ++ spell_plan (plan.Bind load import target)) }
 {
     put_verb(out, Verb::Bind)?;
@@ -45,14 +49,19 @@ fn put_bind(out: &mut Spelling<'_>, load: Name, import: Name, target: Name) -> R
 }
 
 // `restarts N`
-fn put_restarts(out: &mut Spelling<'_>, restarts: u64) -> Result<(), Memory>
+fn put_restarts(out: &mut Spelling<'_>, restarts: u64) -> Result<(), AllocError>
     ensures { OnOk result (out.new ≡ out.old ++ (t.Name (codes "restarts") ∷ t.Number restarts ∷ [])) }
 {
     out.word(b"restarts")?;
     out.number(restarts)
 }
 
-fn put_shadow(out: &mut Spelling<'_>, name: Name, load: Name, restarts: u64) -> Result<(), Memory>
+fn put_shadow(
+    out: &mut Spelling<'_>,
+    name: Name,
+    load: Name,
+    restarts: u64,
+) -> Result<(), AllocError>
     ensures { OnOk result (out.new ≡ out.old ++ spell_plan (plan.Shadow name load restarts)) }
 {
     put_verb(out, Verb::Shadow)?;
@@ -62,7 +71,7 @@ fn put_shadow(out: &mut Spelling<'_>, name: Name, load: Name, restarts: u64) -> 
     put_restarts(out, restarts)
 }
 
-fn put_device(out: &mut Spelling<'_>, load: Name, blocks: u64) -> Result<(), Memory>
+fn put_device(out: &mut Spelling<'_>, load: Name, blocks: u64) -> Result<(), AllocError>
     ensures { OnOk result (out.new ≡ out.old ++ spell_plan (plan.Device load blocks)) }
 {
     put_verb(out, Verb::Device)?;
@@ -70,21 +79,21 @@ fn put_device(out: &mut Spelling<'_>, load: Name, blocks: u64) -> Result<(), Mem
     out.number(blocks)
 }
 
-fn put_serial(out: &mut Spelling<'_>, load: Name) -> Result<(), Memory>
+fn put_serial(out: &mut Spelling<'_>, load: Name) -> Result<(), AllocError>
     ensures { OnOk result (out.new ≡ out.old ++ spell_plan (plan.Serial load)) }
 {
     put_verb(out, Verb::Serial)?;
     out.name(load)
 }
 
-fn put_fuel(out: &mut Spelling<'_>, count: u64) -> Result<(), Memory>
+fn put_fuel(out: &mut Spelling<'_>, count: u64) -> Result<(), AllocError>
     ensures { OnOk result (out.new ≡ out.old ++ spell_plan (plan.Fuel count)) }
 {
     put_verb(out, Verb::Fuel)?;
     out.number(count)
 }
 
-fn put_order(out: &mut Spelling<'_>, clients: &[Name]) -> Result<(), Memory>
+fn put_order(out: &mut Spelling<'_>, clients: &[Name]) -> Result<(), AllocError>
     ensures { OnOk result (out.new ≡ out.old ++ spell_plan (plan.Order clients.now)) }
 {
     put_verb(out, Verb::Order)?;
@@ -99,7 +108,7 @@ impl Written for PlanLine {
 
     ghost depth_of = { depth_of };
 
-    fn put<'a>(&'a self, out: &mut Spelling<'a>) -> Result<(), Memory> {
+    fn put<'a>(&'a self, out: &mut Spelling<'a>) -> Result<(), AllocError> {
         match self {
             PlanLine::Load { name, domain } => put_load(out, *name, *domain),
             PlanLine::Bind {
@@ -125,7 +134,7 @@ impl Written for PlanLine {
 }
 
 /// The canonical text of a plan: each line with a line feed.
-pub fn write_plan(alloc: Global, plan: &Plan) -> Result<Vec<u8>, Memory>
+pub fn write_plan(alloc: Global, plan: &Plan) -> Result<Vec<u8>, AllocError>
     ensures canonical { IfOk result (λ v. v.items ≡ write_plan plan.now.lines) }
     ensures again { IfOk result (λ v. IsPlanAgain plan.now.lines v.items) }
 {

@@ -1,6 +1,6 @@
 use Rattle.std.proofs.Common.{rules, ◌≡◌, Err, arith, sym, subst}
 use Rattle.rl_defs.specs.Refusals.{Answers}
-use Rattle.rl_defs.specs.BundleNames.{FailsBundleNames}
+use Rattle.rl_defs.specs.NameRules.{FailsBundleNames}
 use Rattle.bundle_names.proofs.Composition.{Answer, interfaces_answer, domains_answer, plan_answer, clients_answer, interface_rises, interface_few}
 use Rattle.bundle_names.proofs.check.check_names.Goals as goal
 

@@ -1,5 +1,5 @@
 use Rattle.std.proofs.Common.{◌∙◌}
-use Rattle.rl_defs.specs.BundleNames.{target_passed}
+use Rattle.rl_defs.specs.NameRules.{target_passed}
 use Rattle.bundle_names.proofs.Binding.{unknown_among}
 use Rattle.bundle_names.proofs.clients.pass_no_target.Goals as goal
 

@@ -1,8 +1,7 @@
 use Rattle.std.proofs.Common.{◌≡◌, ◌++◌, Some, length, refl, arith}
 use Rattle.std.specs.Prelude.{slice_get}
 use Rattle.std.proofs.lemmas.Option.{slice_get_read}
-use Rattle.rl_defs.specs.BundleNames.{given_by, names_of}
-use Rattle.rl_defs.specs.BundleNames.{domain_given}
+use Rattle.rl_defs.specs.BundleNames.{given_by, names_of, domain_given}
 use Rattle.bundle_names.proofs.Listing.{listed_more, listed_all}
 use Rattle.bundle_names.proofs.known.add_domains.Goals as goal
 

@@ -1,6 +1,5 @@
 use Rattle.std.proofs.Common.{◌≡◌, ◌++◌}
-use Rattle.rl_defs.specs.BundleNames.{given_by, names_of}
-use Rattle.rl_defs.specs.BundleNames.{client_given}
+use Rattle.rl_defs.specs.BundleNames.{given_by, names_of, client_given}
 use Rattle.bundle_names.proofs.Listing.{names_from}
 use Rattle.bundle_names.proofs.known.client_names.Given as goal
 

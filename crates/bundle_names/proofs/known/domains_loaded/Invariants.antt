@@ -1,6 +1,5 @@
 use Rattle.std.proofs.Common.{◌≡◌, ◌++◌}
-use Rattle.rl_defs.specs.BundleNames.{given_by, names_of}
-use Rattle.rl_defs.specs.BundleNames.{domains_loaded}
+use Rattle.rl_defs.specs.BundleNames.{given_by, names_of, domains_loaded}
 use Rattle.bundle_names.proofs.Listing.{names_from}
 use Rattle.bundle_names.proofs.known.domains_loaded.Given as goal
 

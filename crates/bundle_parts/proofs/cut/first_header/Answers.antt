@@ -1,4 +1,4 @@
-use Rattle.std.proofs.Common.{ℕ, List, map, refl, arith}
+use Rattle.std.proofs.Common.{ℕ, List, map, refl, arith, rules}
 use Rattle.std.proofs.lemmas.List.{length-map}
 use Rattle.rl_text.specs.declared.line.Line.{Line}
 use Rattle.rl_text.specs.Places.{text_of}
@@ -12,26 +12,26 @@ look-requires c = (line_here _ _ c.args.lines.now c.lines.line-index c.requires 
 pub lines-init : goal.lines-init
 lines-init c = record { count = refl; skipped = λ place text lt e. absurd (omega arith) }
 
-pub returns-in-Ok-Header : goal.returns-in-Ok-Header
-returns-in-Ok-Header c =
+pub returns-in-Header : goal.returns-in-Header
+returns-in-Header c =
     let lines : List Line = c.args.lines.now in
     let i : ℕ = c.lines.line-index in
     let here = line_here c.args.bytes.now 1 lines i c.requires (omega arith) in
-    header_begins (map (text_of c.args.bytes.now) lines) i c.lines.place (text_of c.args.bytes.now (line_at lines i)) c.in-Ok-Header.header here.text c.lines.invariant.count c.lines.invariant.skipped (rw c.in-Ok-Header.field-0-is at c.in-Ok-Header.ensures)
+    header_begins (map (text_of c.args.bytes.now) lines) i c.lines.place (text_of c.args.bytes.now (line_at lines i)) c.in-Header.header here.text c.lines.invariant.count c.lines.invariant.skipped (rw c.in-Header.is at c.in_ok-sight.ensures)
 
-pub returns-in-Ok-Other : goal.returns-in-Ok-Other
-returns-in-Ok-Other c =
+pub returns-in-Other : goal.returns-in-Other
+returns-in-Other c =
     let lines : List Line = c.args.lines.now in
     let i : ℕ = c.lines.line-index in
     let here = line_here c.args.bytes.now 1 lines i c.requires (omega arith) in
-    other_refused (map (text_of c.args.bytes.now) lines) i (line_at lines i).number (text_of c.args.bytes.now (line_at lines i)) _ c.refused.ensures here.text (omega (arith, here.number)) c.lines.invariant.skipped (rw c.in-Ok-Other.field-0-is at c.in-Ok-Other.ensures)
+    other_refused (map (text_of c.args.bytes.now) lines) i (line_at lines i).number (text_of c.args.bytes.now (line_at lines i)) _ c.refused.ensures here.text (omega (arith, here.number)) c.lines.invariant.skipped (rw c.in-Other.is at c.in_ok-sight.ensures)
 
-pub returns-in-Err : goal.returns-in-Err
-returns-in-Err c =
+pub returns-in_err-sight : goal.returns-in_err-sight
+returns-in_err-sight c =
     let lines : List Line = c.args.lines.now in
     let i : ℕ = c.lines.line-index in
     let here = line_here c.args.bytes.now 1 lines i c.requires (omega arith) in
-    fault_first (map (text_of c.args.bytes.now) lines) i (line_at lines i).number (text_of c.args.bytes.now (line_at lines i)) c.in-Err.fault here.text (omega (arith, here.number)) c.lines.invariant.skipped c.in-Err.ensures
+    let fault = fault_first (map (text_of c.args.bytes.now) lines) i (line_at lines i).number (text_of c.args.bytes.now (line_at lines i)) _ here.text (omega (arith, here.number)) c.lines.invariant.skipped c.in_err-sight.ensures in search rules
 
 pub lines-preserved : goal.lines-preserved
 lines-preserved c =
@@ -40,7 +40,7 @@ lines-preserved c =
     let here = line_here c.args.bytes.now 1 lines i c.requires (omega arith) in
     record {
       count = omega (arith, c.lines.invariant.count);
-      skipped = skip_more (map (text_of c.args.bytes.now) lines) i (text_of c.args.bytes.now (line_at lines i)) here.text (rw c.in-Ok-Blank.field-0-is at c.in-Ok-Blank.ensures) c.lines.invariant.skipped;
+      skipped = skip_more (map (text_of c.args.bytes.now) lines) i (text_of c.args.bytes.now (line_at lines i)) here.text (rw c.in-Blank.is at c.in_ok-sight.ensures) c.lines.invariant.skipped;
     }
 
 pub returns : goal.returns

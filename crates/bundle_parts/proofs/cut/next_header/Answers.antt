@@ -9,12 +9,12 @@ use Rattle.bundle_parts.proofs.cut.next_header.Goals as goal
 pub header_in-requires : goal.header_in-requires
 header_in-requires c = (line_here _ 1 c.args.lines.now c.lines.place c.requires.numbered (omega arith)).within
 
-pub returns-in-Ok-Some : goal.returns-in-Ok-Some
-returns-in-Ok-Some c =
+pub returns-in-Some : goal.returns-in-Some
+returns-in-Some c =
     let lines : List Line = c.args.lines.now in
     let i : ℕ = c.lines.place in
     let here = line_here c.args.bytes.now 1 lines i c.requires.numbered (omega arith) in
-    next_found (map (text_of c.args.bytes.now) lines) c.args.from i (text_of c.args.bytes.now (line_at lines i)) c.in-Ok-Some.header here.text c.lines.invariant.behind c.lines.invariant.none (rw c.in-Ok-Some.field-0-is at c.in-Ok-Some.ensures)
+    next_found (map (text_of c.args.bytes.now) lines) c.args.from i (text_of c.args.bytes.now (line_at lines i)) c.in-Some.header here.text c.lines.invariant.behind c.lines.invariant.none (rw c.in-Some.is at c.in_ok-found.ensures)
 
 pub lines-preserved : goal.lines-preserved
 lines-preserved c =
@@ -24,7 +24,7 @@ lines-preserved c =
     record {
       behind = omega (arith, c.lines.invariant.behind);
       inside = omega arith;
-      none = next_passed (map (text_of c.args.bytes.now) lines) c.args.from i (text_of c.args.bytes.now (line_at lines i)) here.text c.lines.invariant.none (rw c.in-Ok-None.field-0-is at c.in-Ok-None.ensures);
+      none = next_passed (map (text_of c.args.bytes.now) lines) c.args.from i (text_of c.args.bytes.now (line_at lines i)) here.text c.lines.invariant.none (rw c.in-None.is at c.in_ok-found.ensures);
     }
 
 pub returns : goal.returns

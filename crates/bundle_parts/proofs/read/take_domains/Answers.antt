@@ -7,9 +7,9 @@ use Rattle.bundle_parts.proofs.read.take_domains.Goals as goal
 
 pub read_domains-requires : goal.read_domains-requires
 read_domains-requires c = record {
-  numbered = cut_numbered c.args.bytes.now c.args.lines.now (map (text_of c.args.bytes.now) c.args.lines.now) h.Domains c.args.at.now c.part.new.at c.in-Ok.inside.now c.requires.numbered c.in-Ok.ensures;
-  room = omega (arith, cut_room c.args.bytes.now c.args.lines.now h.Domains c.args.at.now c.part.new.at c.in-Ok.inside.now c.requires.numbered c.requires.few c.in-Ok.ensures);
+  numbered = cut_numbered c.args.bytes.now c.args.lines.now (map (text_of c.args.bytes.now) c.args.lines.now) h.Domains c.args.at.now c.part.new.at c.in_ok-inside.inside.now c.requires.numbered c.in_ok-inside.ensures;
+  room = omega (arith, cut_room c.args.bytes.now c.args.lines.now h.Domains c.args.at.now c.part.new.at c.in_ok-inside.inside.now c.requires.numbered c.requires.few c.in_ok-inside.ensures);
 }
 
-pub returns-in-Ok : goal.returns-in-Ok
-returns-in-Ok c = part_moves h.Domains domains_stand no_domains numbers_of_domains domains_closed domain_kind c.args.bytes.now c.args.lines.now c.in-Ok.inside.now c.args.at.now c.part.new.at c.read_domains.result c.requires.numbered c.requires.reached c.in-Ok.ensures c.read_domains.ensures
+pub returns : goal.returns
+returns c = part_moves h.Domains domains_stand no_domains numbers_of_domains domains_closed domain_kind c.args.bytes.now c.args.lines.now c.in_ok-inside.inside.now c.args.at.now c.part.new.at c.read_domains.result c.requires.numbered c.requires.reached c.in_ok-inside.ensures c.read_domains.ensures

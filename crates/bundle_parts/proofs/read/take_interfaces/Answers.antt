@@ -7,9 +7,9 @@ use Rattle.bundle_parts.proofs.read.take_interfaces.Goals as goal
 
 pub read_idl-requires : goal.read_idl-requires
 read_idl-requires c = record {
-  numbered = cut_numbered c.args.bytes.now c.args.lines.now (map (text_of c.args.bytes.now) c.args.lines.now) h.Interfaces c.args.at.now c.part.new.at c.in-Ok.inside.now c.requires.numbered c.in-Ok.ensures;
-  room = omega (arith, cut_room c.args.bytes.now c.args.lines.now h.Interfaces c.args.at.now c.part.new.at c.in-Ok.inside.now c.requires.numbered c.requires.few c.in-Ok.ensures);
+  numbered = cut_numbered c.args.bytes.now c.args.lines.now (map (text_of c.args.bytes.now) c.args.lines.now) h.Interfaces c.args.at.now c.part.new.at c.in_ok-inside.inside.now c.requires.numbered c.in_ok-inside.ensures;
+  room = omega (arith, cut_room c.args.bytes.now c.args.lines.now h.Interfaces c.args.at.now c.part.new.at c.in_ok-inside.inside.now c.requires.numbered c.requires.few c.in_ok-inside.ensures);
 }
 
-pub returns-in-Ok : goal.returns-in-Ok
-returns-in-Ok c = part_moves h.Interfaces idl_stands no_idl idl_numbers idl_closed interface_kind c.args.bytes.now c.args.lines.now c.in-Ok.inside.now c.args.at.now c.part.new.at c.read_idl.result c.requires.numbered c.requires.reached c.in-Ok.ensures c.read_idl.ensures
+pub returns : goal.returns
+returns c = part_moves h.Interfaces idl_stands no_idl idl_numbers idl_closed interface_kind c.args.bytes.now c.args.lines.now c.in_ok-inside.inside.now c.args.at.now c.part.new.at c.read_idl.result c.requires.numbered c.requires.reached c.in_ok-inside.ensures c.read_idl.ensures

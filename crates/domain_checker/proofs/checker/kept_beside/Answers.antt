@@ -1,14 +1,15 @@
-use Rattle.std.proofs.Common.{subst, length, Result}
-use Rattle.rl_defs.specs.declared.LoadFault.{LoadFault}
-use Rattle.rl_defs.specs.Refusals.{Answers}
-use Rattle.rl_defs.specs.CodeRules.{FailsCode}
-use Rattle.domain_checker.specs.declared.rows.Kept.{Kept}
-use Rattle.domain_checker.specs.Keeping.{AreRows, domain}
+use Rattle.std.proofs.Common.{subst, sym}
+use Rattle.rl_defs.specs.DomainValue.{Domain}
+use Rattle.rl_defs.specs.DomainParts.{LinesRise}
+use Rattle.domain_checker.specs.Keeping.{domain}
 use Rattle.domain_checker.proofs.Entering.{entries_are, kept_whole}
 use Rattle.domain_checker.proofs.checker.kept_beside.Goals as goal
 
-pub returns-in-Ok-entries_of : goal.returns-in-Ok-entries_of
-returns-in-Ok-entries_of c =
-    kept_whole c.in-Ok.scope (domain c.args.lines.now c.args.tables.now) c.in-Ok-scan.kept.emptied.items c.in-Ok-scan.kept.rows.items c.in-Ok-entries_of.entries.items c.in-Ok.ensures
-    (subst (λ (r : Result Kept LoadFault). Answers {X = Kept} (FailsCode c.in-Ok.scope) (λ (kept : Kept). AreRows c.in-Ok.scope kept.emptied.items kept.rows.items (length c.in-Ok.scope.lines)) r) c.in-Ok-scan.is c.scan.ensures)
-    (entries_are c.in-Ok.scope (domain c.args.lines.now c.args.tables.now) c.methods.result.now c.domain_trait.result c.in-Ok-entries_of.entries.items c.in-Ok.ensures c.in-Ok-entries_of.ensures c.methods.ensures.value c.domain_trait.ensures)
+pub scan-requires-clause-rises : goal.scan-requires-clause-rises
+scan-requires-clause-rises c = subst (λ (d : Domain). LinesRise d.lines) (sym c.in_ok-scope.ensures) c.requires.rises
+
+pub returns : goal.returns
+returns c =
+    kept_whole c.in_ok-scope.scope (domain c.args.lines.now c.args.tables.now) c.in_ok-kept.kept.emptied.items c.in_ok-kept.kept.rows.items c.in_ok-entries.entries.items c.in_ok-scope.ensures
+    c.in_ok-kept.ensures
+    (entries_are c.in_ok-scope.scope (domain c.args.lines.now c.args.tables.now) c.methods.result.now c.domain_trait.result c.in_ok-entries.entries.items c.in_ok-scope.ensures c.in_ok-entries.ensures c.methods.ensures.value c.domain_trait.ensures)

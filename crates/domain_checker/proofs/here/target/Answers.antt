@@ -1,5 +1,5 @@
 use Rattle.std.proofs.Common.{sym, ap, ◌∙◌}
-use Rattle.rl_defs.specs.CodeRules.{place_of_label}
+use Rattle.rl_defs.specs.CodeNames.{place_of_label}
 use Rattle.domain_checker.proofs.Labels.{some_within}
 use Rattle.domain_checker.proofs.here.target.Goals as goal
 

@@ -3,8 +3,8 @@ use Rattle.std.specs.Prelude.{IfSome}
 use Rattle.rl_defs.specs.declared.code.DomainLine.{DomainLine}
 use Rattle.rl_defs.specs.Domains.{Lines}
 use Rattle.rl_defs.specs.CodeKinds.{at_label}
-use Rattle.rl_defs.specs.CodeRules.{place_of_label}
-use Rattle.rl_defs.specs.Instructions.{label_of_form}
+use Rattle.rl_defs.specs.CodeNames.{place_of_label}
+use Rattle.rl_defs.specs.CodeNames.{label_of_form}
 use Rattle.rl_defs.specs.LineRows.{Leads}
 use Rattle.rl_defs.specs.declared.checked.LineRow.{LineRow}
 use Rattle.rl_defs.specs.Checked.{IsRow, emptied_on}

@@ -15,7 +15,7 @@ lines-init c = record {
   at = c.first-here.ensures.place;
   of = c.first-here.ensures.scope;
   none = none_first c.args.scope.now;
-  rows = rows_first c.args.scope.now c.new.result.items c.in-Ok.rows.items c.in-Ok.ensures.items;
+  rows = rows_first c.args.scope.now c.new.result.items c.in_ok-rows.rows.items c.in_ok-rows.ensures.items;
 }
 
 pub keep-requires-clause-lines : goal.keep-requires-clause-lines
@@ -41,10 +41,10 @@ lines-preserved c =
     let there : slice_get c.lines-lines.result.now c.lines.place ≡ Some c.index-lines-place.result = slice_get_read c.lines-lines.result.now (length c.lines-lines.result.now) c.lines.place c.index-lines-place.result refl c.lines-test.true c.index-lines-place.is in
     let here : slice_get c.args.scope.now.lines c.lines.place ≡ Some c.index-lines-place.result = subst (λ (ls : Lines). slice_get ls c.lines.place ≡ Some c.index-lines-place.result) c.lines-lines.ensures.value there in
     record {
-      at = c.in-Ok-next.ensures.place ∙ ap (λ (k : ℕ). k + 1) c.lines.invariant.at;
-      of = c.in-Ok-next.ensures.scope ∙ c.lines.invariant.of;
-      none = none_more c.args.scope.now c.lines.place c.index-lines-place.result c.lines.invariant.none here (lowest_there c.args.scope.now c.lines.here.scope.now c.lines.here.place c.lines.place c.index-lines-place.result.form c.rule_of.result None c.lines.invariant.of c.lines.invariant.at c.in_default-rule_of.is c.rule_of.ensures);
-      rows = rows_here c.args.scope.now c.lines.here.scope.now c.keep.new.kept.emptied.items c.keep.new.kept.rows.items c.lines.here.place c.lines.place c.lines.invariant.of c.lines.invariant.at c.in-Ok-keep.ensures;
+      at = c.in_ok-next.ensures.place ∙ ap (λ (k : ℕ). k + 1) c.lines.invariant.at;
+      of = c.in_ok-next.ensures.scope ∙ c.lines.invariant.of;
+      none = none_more c.args.scope.now c.lines.place c.index-lines-place.result c.lines.invariant.none here (lowest_there c.args.scope.now c.lines.here.scope.now c.lines.here.place c.lines.place c.index-lines-place.result.form c.rule_of.result None c.lines.invariant.of c.lines.invariant.at c.in_default.is c.rule_of.ensures);
+      rows = rows_here c.args.scope.now c.lines.here.scope.now c.keep.new.kept.emptied.items c.keep.new.kept.rows.items c.lines.here.place c.lines.place c.lines.invariant.of c.lines.invariant.at c.in_ok-keep.ensures;
     }
 
 pub returns : goal.returns

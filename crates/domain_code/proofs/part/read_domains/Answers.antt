@@ -1,4 +1,4 @@
-use Rattle.std.proofs.Common.{ℕ, List, map, sym, subst, arith}
+use Rattle.std.proofs.Common.{ℕ, List, map, sym, subst, arith, rules}
 use Rattle.std.proofs.lemmas.List.{length-map}
 use Rattle.rl_defs.specs.Refusals.{IsFirst}
 use Rattle.rl_defs.specs.DomainParts.{FailsDomains}
@@ -15,13 +15,13 @@ take_line-requires c = (line_here _ _ c.args.lines.now c.lines.line-index c.requ
 pub lines-init : goal.lines-init
 lines-init c = record { count = omega (arith, c.first_number-number.ensures); so_far = rw c.new-domains.ensures.items (nothing_read _ _) }
 
-pub returns-in-Err : goal.returns-in-Err
-returns-in-Err c =
+pub returns-in_err-block : goal.returns-in_err-block
+returns-in_err-block c =
     let lines : List Line = c.args.lines.now in
     let i : ℕ = c.lines.line-index in
     let line : Line = line_at lines i in
     let here = line_here c.args.bytes.now (first_number lines) lines i c.requires.numbered (omega arith) in
-    one_refused (first_number lines) i line.number (map (text_of c.args.bytes.now) lines) (text_of c.args.bytes.now line) c.lines.block c.lines.domains.items c.take_line.new.domains.items c.in-Err.fault here.text here.number c.lines.invariant.so_far c.in-Err.ensures
+    let refused = one_refused (first_number lines) i line.number (map (text_of c.args.bytes.now) lines) (text_of c.args.bytes.now line) c.lines.block c.lines.domains.items c.take_line.new.domains.items _ here.text here.number c.lines.invariant.so_far c.in_err-block.ensures in search rules
 
 pub lines-preserved : goal.lines-preserved
 lines-preserved c =
@@ -31,7 +31,7 @@ lines-preserved c =
     let here = line_here c.args.bytes.now (first_number lines) lines i c.requires.numbered (omega arith) in
     record {
       count = omega (arith, c.lines.invariant.count);
-      so_far = one_read (first_number lines) i line.number (map (text_of c.args.bytes.now) lines) (text_of c.args.bytes.now line) c.lines.block c.in-Ok.next c.lines.domains.items c.take_line.new.domains.items here.text here.number c.lines.invariant.so_far c.in-Ok.ensures;
+      so_far = one_read (first_number lines) i line.number (map (text_of c.args.bytes.now) lines) (text_of c.args.bytes.now line) c.lines.block c.in_ok-block.block c.lines.domains.items c.take_line.new.domains.items here.text here.number c.lines.invariant.so_far c.in_ok-block.ensures;
     }
 
 pub returns-in-Outside : goal.returns-in-Outside

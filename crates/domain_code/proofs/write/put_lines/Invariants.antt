@@ -1,5 +1,5 @@
 use Rattle.std.proofs.Common.{◌≡◌, ◌++◌, drop}
-use Rattle.rl_defs.specs.DomainCanonical.{write_lines}
+use Rattle.domain_code.specs.DomainCanonical.{write_lines}
 use Rattle.domain_code.proofs.write.put_lines.Given as goal
 
 abbrev pub invariant-lines : goal.invariant-lines

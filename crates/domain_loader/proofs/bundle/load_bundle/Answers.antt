@@ -1,14 +1,13 @@
 use Rattle.std.proofs.Common.{◌≡◌, List, map, Err, sym, subst}
 use Rattle.rl_defs.specs.declared.bundle.Bundle.{Bundle}
 use Rattle.rl_defs.specs.declared.tables.Tables.{Tables}
-use Rattle.rl_defs.specs.declared.load.Load.{Load}
+use Rattle.rl_defs.specs.declared.load.LoadRows.{LoadRows}
 use Rattle.rl_defs.specs.DomainValue.{Domain}
-use Rattle.rl_defs.specs.Refusals.{Answers}
+use Rattle.rl_defs.specs.Refusals.{Answers, Then}
 use Rattle.rl_defs.specs.TypeRules.{FailsTypes}
 use Rattle.rl_defs.specs.MethodRules.{FailsMethods, TableRows}
-use Rattle.rl_defs.specs.BundleNames.{FailsBundleNames}
+use Rattle.rl_defs.specs.NameRules.{FailsBundleNames}
 use Rattle.rl_defs.specs.Acceptance.{Next, FailsBehindTables}
-use Rattle.rl_defs.specs.Refusals.{Then}
 use Rattle.domain_loader.specs.Phases.{IsLoadOf, IsReady}
 use Rattle.domain_loader.proofs.Composing.{refused_next}
 use Rattle.domain_loader.proofs.Behind.{tables_refused, behind_tables, domains_refused, plan_answers, bundle_stays, interfaces_rise, domains_in_order}
@@ -17,7 +16,7 @@ use Rattle.domain_loader.proofs.bundle.load_bundle.Goals as goal
 pub returns-in-Err : goal.returns-in-Err
 returns-in-Err c =
     let b = c.args.bundle in
-    refused_next {X = Unit {0}} {Y = Load} (FailsBundleNames b) (Next (FailsTypes b.idl) (Then (FailsMethods b.idl) (TableRows b.idl) (FailsBehindTables b))) (λ u. Unit {0}) (IsLoadOf b) c.in-Err.fault c.in-Err.ensures
+    refused_next {X = Unit {0}} {Y = LoadRows} (FailsBundleNames b) (Next (FailsTypes b.idl) (Then (FailsMethods b.idl) (TableRows b.idl) (FailsBehindTables b))) (λ u. Unit {0}) (IsLoadOf b) c.in-Err.fault c.in-Err.ensures
 
 pub tables_of-requires-clause-rises : goal.tables_of-requires-clause-rises
 tables_of-requires-clause-rises c = interfaces_rise c.args.bundle c.requires

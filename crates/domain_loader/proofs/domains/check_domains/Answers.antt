@@ -3,7 +3,7 @@ use Rattle.rl_defs.specs.declared.tables.Tables.{Tables}
 use Rattle.rl_defs.specs.DomainValue.{Domain}
 use Rattle.rl_defs.specs.Refusals.{Nowhere, Answers}
 use Rattle.rl_defs.specs.CodeRules.{FailsCode}
-use Rattle.rl_defs.specs.Standing.{checked_with}
+use Rattle.rl_defs.specs.LoadOf.{checked_with}
 use Rattle.domain_loader.proofs.Apart.{lines_rise, seam, all_shift, put_last, none_more, refused_first, done_all}
 use Rattle.domain_loader.proofs.domains.check_domains.Goals as goal
 

@@ -1,5 +1,5 @@
 use Rattle.std.proofs.Common.{◌≡◌, ◌++◌, map, ℕ, List, length}
-use Rattle.rl_defs.specs.Standing.{checked_with}
+use Rattle.rl_defs.specs.LoadOf.{checked_with}
 use Rattle.domain_loader.proofs.Apart.{NoneBefore}
 use Rattle.domain_loader.proofs.domains.check_domains.Given as goal
 

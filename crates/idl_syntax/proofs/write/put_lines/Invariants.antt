@@ -1,5 +1,5 @@
 use Rattle.std.proofs.Common.{◌≡◌, ◌++◌, drop}
-use Rattle.rl_defs.specs.IdlCanonical.{write_part}
+use Rattle.idl_syntax.specs.IdlCanonical.{write_part}
 use Rattle.idl_syntax.proofs.write.put_lines.Given as goal
 
 abbrev pub invariant-lines : goal.invariant-lines

@@ -1,4 +1,4 @@
-use Rattle.std.proofs.Common.{◌≡◌, Some, length, refl, arith, slice_get}
+use Rattle.std.proofs.Common.{rules, ◌≡◌, Err, Some, length, refl, arith, slice_get}
 use Rattle.std.proofs.lemmas.Option.{slice_get_read}
 use Rattle.plan_checker.proofs.Counting.{domains_first, domains_all, domain_answers, domain_passes}
 use Rattle.plan_checker.proofs.limits.check_domains.Goals as goal
@@ -12,9 +12,10 @@ returns c = (domains_all c.args.domains.now c.domains.domain-index (omega arith)
 pub domains-preserved : goal.domains-preserved
 domains-preserved c =
     let here : slice_get c.args.domains.now c.domains.domain-index ≡ Some c.domain-item.result = slice_get_read c.args.domains.now (length c.args.domains.now) c.domains.domain-index c.domain-item.result refl c.domains-test.true c.domain-item.is in
-    domain_passes c.args.domains.now c.domains.domain-index c.domain-item.result c.lines.result.now c.domains.invariant here c.lines.ensures.value c.in_default.ensures.0
+    domain_passes c.args.domains.now c.domains.domain-index c.domain-item.result c.lines.result.now c.domains.invariant here c.lines.ensures.value c.in_ok-check_domain.ensures.0
 
-pub returns-in-Err : goal.returns-in-Err
-returns-in-Err c =
+pub returns-in_err-check_domain : goal.returns-in_err-check_domain
+returns-in_err-check_domain c =
     let here : slice_get c.args.domains.now c.domains.domain-index ≡ Some c.domain-item.result = slice_get_read c.args.domains.now (length c.args.domains.now) c.domains.domain-index c.domain-item.result refl c.domains-test.true c.domain-item.is in
-    domain_answers c.args.domains.now c.domains.domain-index c.domain-item.result c.lines.result.now c.in-Err.fault c.requires c.domains.invariant here c.lines.ensures.value c.in-Err.ensures
+    let same : c.from_residual.result ≡ Err c.in_err-check_domain.field-0.0 = search rules in
+    rw same (domain_answers c.args.domains.now c.domains.domain-index c.domain-item.result c.lines.result.now c.in_err-check_domain.field-0.0 c.requires c.domains.invariant here c.lines.ensures.value c.in_err-check_domain.ensures)

@@ -1,7 +1,6 @@
 use Rattle.std.proofs.Common.{◌≡◌, Some, length, refl, ap, arith, slice_get}
 use Rattle.std.proofs.lemmas.Option.{slice_get_read}
-use Rattle.rl_defs.specs.Standing.{shadow_given}
-use Rattle.plan_checker.specs.Lookups.{shadowed}
+use Rattle.rl_defs.specs.BundleNames.{shadow_given, shadowed}
 use Rattle.plan_checker.proofs.Forms.{no_shadow}
 use Rattle.plan_checker.proofs.Pairing.{pairs_first, pairs_more, pairs_none, pairs_all}
 use Rattle.plan_checker.proofs.pairs.shadows_of.Goals as goal

@@ -1,5 +1,4 @@
-use Rattle.rl_defs.specs.Standing.{shadow_given}
-use Rattle.plan_checker.specs.Lookups.{shadowed}
+use Rattle.rl_defs.specs.BundleNames.{shadow_given, shadowed}
 use Rattle.plan_checker.proofs.Pairing.{PairsTo}
 use Rattle.plan_checker.proofs.pairs.shadows_of.Given as goal
 

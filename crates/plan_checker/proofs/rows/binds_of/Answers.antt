@@ -1,6 +1,6 @@
 use Rattle.std.proofs.Common.{◌≡◌, ℕ, List, [], ◌∷◌, ◌++◌, map, Some, length, refl, ap, ◌∙◌, arith, slice_get}
 use Rattle.std.proofs.lemmas.Option.{slice_get_read}
-use Rattle.rl_defs.specs.Standing.{target_number, bound_to}
+use Rattle.rl_defs.specs.LoadOf.{target_number, bound_to}
 use Rattle.plan_checker.proofs.Gathering.{gather_first, gather_more, gather_all}
 use Rattle.plan_checker.proofs.rows.binds_of.Goals as goal
 

@@ -1,5 +1,5 @@
 use Rattle.std.proofs.Common.{map}
-use Rattle.rl_defs.specs.Standing.{target_number, bound_to}
+use Rattle.rl_defs.specs.LoadOf.{target_number, bound_to}
 use Rattle.plan_checker.proofs.Gathering.{Gathers}
 use Rattle.plan_checker.proofs.rows.binds_of.Given as goal
 

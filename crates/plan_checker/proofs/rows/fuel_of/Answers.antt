@@ -3,7 +3,7 @@ use Rattle.std.specs.List.{flat_map}
 use Rattle.std.proofs.lemmas.Option.{slice_get_read}
 use Rattle.rl_defs.specs.declared.bundle.Numbered.{Numbered}
 use Rattle.rl_defs.specs.declared.bundle.PlanLine.{PlanLine}
-use Rattle.rl_defs.specs.Standing.{fuel_in}
+use Rattle.rl_defs.specs.LoadOf.{fuel_in}
 use Rattle.plan_checker.proofs.Forms.{no_fuel}
 use Rattle.plan_checker.proofs.Gathering.{gather_first, gather_none, first_found, first_missing}
 use Rattle.plan_checker.proofs.Steps.{flat_step}

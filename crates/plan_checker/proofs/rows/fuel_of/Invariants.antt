@@ -1,6 +1,6 @@
 use Rattle.std.proofs.Common.{[]}
 use Rattle.std.specs.List.{flat_map}
-use Rattle.rl_defs.specs.Standing.{fuel_in}
+use Rattle.rl_defs.specs.LoadOf.{fuel_in}
 use Rattle.plan_checker.proofs.Gathering.{Gathers}
 use Rattle.plan_checker.proofs.rows.fuel_of.Given as goal
 

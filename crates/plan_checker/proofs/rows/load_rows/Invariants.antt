@@ -1,5 +1,5 @@
 use Rattle.std.specs.List.{flat_map}
-use Rattle.rl_defs.specs.Standing.{loads_in}
+use Rattle.rl_defs.specs.LoadOf.{loads_in}
 use Rattle.plan_checker.proofs.Gathering.{Gathers}
 use Rattle.plan_checker.proofs.rows.load_rows.Given as goal
 

@@ -3,7 +3,7 @@ use Rattle.std.specs.List.{flat_map}
 use Rattle.std.proofs.lemmas.Option.{slice_get_read}
 use Rattle.rl_defs.specs.declared.bundle.Numbered.{Numbered}
 use Rattle.rl_defs.specs.declared.bundle.PlanLine.{PlanLine}
-use Rattle.rl_defs.specs.Standing.{number_in}
+use Rattle.rl_defs.specs.LoadOf.{number_in}
 use Rattle.plan_checker.specs.Rows.{order_with}
 use Rattle.plan_checker.proofs.Forms.{no_order}
 use Rattle.plan_checker.proofs.Gathering.{gather_first, gather_more, gather_none, gather_all}

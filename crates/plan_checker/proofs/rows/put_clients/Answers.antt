@@ -1,6 +1,6 @@
 use Rattle.std.proofs.Common.{◌≡◌, ℕ, List, [], ◌∷◌, ◌++◌, map, Some, length, refl, ap, ◌∙◌, arith, slice_get}
 use Rattle.std.proofs.lemmas.Option.{slice_get_read}
-use Rattle.rl_defs.specs.Standing.{number_in}
+use Rattle.rl_defs.specs.LoadOf.{number_in}
 use Rattle.plan_checker.proofs.Gathering.{behind_first, behind_more, behind_all}
 use Rattle.plan_checker.proofs.rows.put_clients.Goals as goal
 

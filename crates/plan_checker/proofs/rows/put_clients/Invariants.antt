@@ -1,5 +1,5 @@
 use Rattle.std.proofs.Common.{map}
-use Rattle.rl_defs.specs.Standing.{number_in}
+use Rattle.rl_defs.specs.LoadOf.{number_in}
 use Rattle.plan_checker.proofs.Gathering.{GathersBehind}
 use Rattle.plan_checker.proofs.rows.put_clients.Given as goal
 

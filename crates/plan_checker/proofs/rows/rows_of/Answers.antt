@@ -3,7 +3,7 @@ use Rattle.std.specs.List.{flat_map, slice_index_or}
 use Rattle.rl_defs.specs.declared.bundle.Bundle.{Bundle}
 use Rattle.rl_defs.specs.declared.bundle.Numbered.{Numbered}
 use Rattle.rl_defs.specs.declared.bundle.PlanLine.{PlanLine}
-use Rattle.rl_defs.specs.Standing.{loads_in, shadows_in, fuel_in, device_in, blocks_in}
+use Rattle.rl_defs.specs.LoadOf.{loads_in, shadows_in, fuel_in, device_in, blocks_in}
 use Rattle.plan_checker.specs.Lookups.{PlanLines}
 use Rattle.plan_checker.specs.Rows.{order_with}
 use Rattle.plan_checker.proofs.Forms.{orders_same}

@@ -1,5 +1,5 @@
 use Rattle.std.specs.List.{flat_map}
-use Rattle.rl_defs.specs.Standing.{shadows_in}
+use Rattle.rl_defs.specs.LoadOf.{shadows_in}
 use Rattle.plan_checker.proofs.Gathering.{Gathers}
 use Rattle.plan_checker.proofs.rows.shadow_rows.Given as goal
 

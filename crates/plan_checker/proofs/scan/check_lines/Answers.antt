@@ -27,7 +27,7 @@ lines-preserved c =
     let lowest = subst (λ (o : Option ℕ). IsLowest (FailsPlanLine c.args.tables.now c.lines.line-index c.line-item.result.form) o) c.in_default.is (lowest_seen c.args.tables.now c.lines.line-index c.line-item.result.form c.lines.seen.loads c.lines.seen.shadowed c.lines.seen.devices c.rule_of.result c.lines.invariant.seen c.rule_of.ensures) in
     record {
       none = none_more c.args.tables.now.plan.lines (FailsPlanLine c.args.tables.now) c.lines.line-index c.line-item.result c.lines.invariant.none here lowest;
-      seen = seen_more c.args.tables.now.plan.lines c.lines.line-index c.line-item.result c.lines.seen.loads c.add.new.self.loads c.lines.seen.shadowed c.add.new.self.shadowed c.lines.seen.devices c.add.new.self.devices c.lines.invariant.seen here c.in-Ok.ensures.loads c.in-Ok.ensures.shadowed c.in-Ok.ensures.devices c.in-Ok.ensures.few.0 c.in-Ok.ensures.few.2 c.in-Ok.ensures.few.1;
+      seen = seen_more c.args.tables.now.plan.lines c.lines.line-index c.line-item.result c.lines.seen.loads c.add.new.self.loads c.lines.seen.shadowed c.add.new.self.shadowed c.lines.seen.devices c.add.new.self.devices c.lines.invariant.seen here c.in_ok-add.ensures.loads c.in_ok-add.ensures.shadowed c.in_ok-add.ensures.devices c.in_ok-add.ensures.few.0 c.in_ok-add.ensures.few.2 c.in_ok-add.ensures.few.1;
     }
 
 pub returns : goal.returns

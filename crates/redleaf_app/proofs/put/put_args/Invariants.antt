@@ -1,5 +1,5 @@
 use Rattle.std.proofs.Common.{◌≡◌, ◌++◌, take}
-use Rattle.rl_defs.specs.Texts.{args_text}
+use Rattle.machine_defs.specs.Texts.{args_text}
 use Rattle.redleaf_app.proofs.put.put_args.Given as goal
 
 abbrev pub invariant-each : goal.invariant-each

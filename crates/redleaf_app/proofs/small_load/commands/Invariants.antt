@@ -1,6 +1,6 @@
 use Rattle.std.proofs.Common.{◌≡◌, take}
 use Rattle.std.specs.Prelude.{map}
-use Rattle.rl_defs.specs.Small.{command_of}
+use Rattle.domain_machine.specs.Small.Form.{command_of}
 use Rattle.redleaf_app.proofs.small_load.commands.Given as goal
 
 abbrev pub invariant-pairs : goal.invariant-pairs

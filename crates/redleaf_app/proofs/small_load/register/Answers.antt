@@ -1,5 +1,5 @@
 use Rattle.std.proofs.Common.{refl}
-use Rattle.rl_defs.specs.Small.{register}
+use Rattle.domain_machine.specs.Small.Form.{register}
 use Rattle.redleaf_app.proofs.Registers.{same_register}
 use Rattle.redleaf_app.proofs.small_load.register.Goals as goal
 

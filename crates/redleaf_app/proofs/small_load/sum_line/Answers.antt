@@ -1,5 +1,5 @@
 use Rattle.std.proofs.Common.{◌≡◌, lit<}
-use Rattle.rl_defs.specs.Small.{r0, r1, r2}
+use Rattle.domain_machine.specs.Small.Form.{r0, r1, r2}
 use Rattle.redleaf_app.proofs.small_load.sum_line.Goals as goal
 
 pub returns : goal.returns

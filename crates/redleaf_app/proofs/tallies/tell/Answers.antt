@@ -1,5 +1,5 @@
 use Rattle.std.proofs.Common.{ap, ◌∙◌}
-use Rattle.rl_defs.specs.Texts.{tally_of_own}
+use Rattle.machine_defs.specs.Texts.{tally_of_own}
 use Rattle.redleaf_app.proofs.KeptTallies.{told_after}
 use Rattle.redleaf_app.proofs.tallies.tell.Goals as goal
 

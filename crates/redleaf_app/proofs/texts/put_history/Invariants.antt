@@ -1,5 +1,5 @@
 use Rattle.std.proofs.Common.{◌≡◌, ◌++◌, take}
-use Rattle.rl_defs.specs.Texts.{history_text}
+use Rattle.machine_defs.specs.Texts.{history_text}
 use Rattle.redleaf_app.proofs.texts.put_history.Given as goal
 
 abbrev pub invariant-each : goal.invariant-each

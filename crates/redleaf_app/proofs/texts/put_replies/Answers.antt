@@ -1,7 +1,8 @@
 use Rattle.std.proofs.Common.{◌≡◌, ◌+◌, ◌++◌, [], ◌∷◌, take, sym, ap, ◌∙◌, arith}
 use Rattle.std.proofs.lemmas.List.{take_more}
-use Rattle.rl_defs.specs.declared.entry.Entry.{Entry}
-use Rattle.rl_defs.specs.Texts.{tally, thread_of}
+use Rattle.machine_defs.specs.declared.entry.Entry.{Entry}
+use Rattle.machine_defs.specs.Texts.{tally}
+use Rattle.machine_defs.specs.Entries.{thread_of}
 use Rattle.redleaf_app.specs.Tallies.{told, told_of}
 use Rattle.redleaf_app.proofs.Histories.{few_told, replied, told_more}
 use Rattle.redleaf_app.proofs.texts.put_replies.Goals as goal

@@ -1,5 +1,5 @@
 use Rattle.std.proofs.Common.{◌≡◌, ◌++◌, ℕ, take}
-use Rattle.rl_defs.specs.Texts.{replies_text, tally}
+use Rattle.machine_defs.specs.Texts.{replies_text, tally}
 use Rattle.redleaf_app.specs.Tallies.{told_of}
 use Rattle.redleaf_app.proofs.texts.put_replies.Given as goal
 

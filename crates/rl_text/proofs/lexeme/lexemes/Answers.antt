@@ -36,5 +36,5 @@ line-preserved c =
     record {
       within = c.in-Found.ensures.within;
       bytes = next_bytes text c.line.at found c.in-Found.ensures c.line.invariant.bytes;
-      read = (_, next_step text r.0 c.line.at found r.1 c.in-Found.ensures, lexemes_more text r.0 c.line.all.items c.push.new.self.items found.lexeme found.start found.stop r.2 c.in-Ok.ensures.items);
+      read = (_, next_step text r.0 c.line.at found r.1 c.in-Found.ensures, lexemes_more text r.0 c.line.all.items c.push.new.self.items found.lexeme found.start found.stop r.2 c.in_ok-push-in-Found.ensures.items);
     }

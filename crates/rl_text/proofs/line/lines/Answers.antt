@@ -12,7 +12,7 @@ lines-preserved c =
     let whole : ℕ = c.first_line-cut.result.whole in
     let cut : IsCut (drop start bytes) text whole = rw c.split_at.ensures.back at c.first_line-cut.ensures in
     let line : Line = line_at (c.len.result + 1) start (start + text) in
-    let new : c.push.new.self.items ≡ c.lines.all.items ++ line ∷ [] = c.in-Ok.ensures.items in
+    let new : c.push.new.self.items ≡ c.lines.all.items ++ line ∷ [] = c.in_ok-push.ensures.items in
     record {
       within = omega arith;
       count = rw new (omega (arith, length-append c.lines.all.items (line ∷ [])));

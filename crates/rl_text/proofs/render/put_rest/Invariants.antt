@@ -1,5 +1,5 @@
 use Rattle.std.proofs.Common.{◌≡◌, ◌++◌, map, drop}
-use Rattle.rl_defs.specs.Canonical.{render_behind}
+use Rattle.rl_text.specs.Canonical.{render_behind}
 use Rattle.rl_text.specs.Pieces.{piece_token}
 use Rattle.rl_text.proofs.render.put_rest.Given as goal
 

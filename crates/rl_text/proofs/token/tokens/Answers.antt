@@ -27,5 +27,5 @@ line-preserved c =
     let r = c.line.invariant.read in
     record {
       within = c.in-Found.ensures.within;
-      read = (_, next_step text r.0 c.line.at found r.1 c.in-Found.ensures, spans_more c.args.line.now.start r.0 c.line.all.items c.push.new.self.items c.kind_of.result (c.args.line.now.start + found.start) (c.args.line.now.start + found.stop) p r.2 (c.kind_of.ensures text) refl refl c.in-Ok.ensures.items);
+      read = (_, next_step text r.0 c.line.at found r.1 c.in-Found.ensures, spans_more c.args.line.now.start r.0 c.line.all.items c.push.new.self.items c.kind_of.result (c.args.line.now.start + found.start) (c.args.line.now.start + found.stop) p r.2 (c.kind_of.ensures text) refl refl c.in_ok-push-in-Found.ensures.items);
     }

@@ -12,4 +12,4 @@ returns c = λ idl.
     (rising_clients (bundle_of c.requires.0 c.args.domains.now c.args.plan.now c.args.clients.now) c.requires.1.named.ordered)
     (closed_clients (bundle_of c.requires.0 c.args.domains.now c.args.plan.now c.args.clients.now) c.requires.1.named.ordered)
     c.rows_of.result
-    (subst (λ (s : Scoped). Says {X = List ClientRow} (verdict_of s.tables s.bundle s.bundle.clients.lines) (λ rows. rows ≡ rows_of s.tables s.bundle s.bundle.clients.lines) c.rows_of.result) c.in-Ok.ensures c.rows_of.ensures)
+    (subst (λ (s : Scoped). Says {X = List ClientRow} (verdict_of s.tables s.bundle s.bundle.clients.lines) (λ rows. rows ≡ rows_of s.tables s.bundle s.bundle.clients.lines) c.rows_of.result) c.in_ok-scope.ensures c.rows_of.ensures)

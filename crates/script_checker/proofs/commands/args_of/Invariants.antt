@@ -1,5 +1,5 @@
 use Rattle.std.proofs.Common.{◌≡◌, ◌++◌, drop, map}
-use Rattle.rl_defs.specs.Standing.{arg_of}
+use Rattle.rl_defs.specs.LoadOf.{arg_of}
 use Rattle.script_checker.proofs.commands.args_of.Given as goal
 
 abbrev pub invariant-each : goal.invariant-each

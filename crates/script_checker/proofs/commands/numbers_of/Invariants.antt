@@ -1,5 +1,5 @@
 use Rattle.std.proofs.Common.{◌≡◌, ◌++◌, drop, map}
-use Rattle.rl_defs.specs.Standing.{name_number}
+use Rattle.rl_defs.specs.LoadOf.{name_number}
 use Rattle.script_checker.proofs.commands.numbers_of.Given as goal
 
 abbrev pub invariant-each : goal.invariant-each

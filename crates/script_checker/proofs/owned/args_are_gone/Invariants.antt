@@ -1,6 +1,6 @@
 use Rattle.std.proofs.Common.{◌≡◌, drop}
 use Rattle.std.specs.List.{list_any, flat_map}
-use Rattle.rl_defs.specs.BundleNames.{name_passed}
+use Rattle.rl_defs.specs.NameRules.{name_passed}
 use Rattle.rl_defs.specs.ScriptRules.{is_among}
 use Rattle.script_checker.proofs.owned.args_are_gone.Given as goal
 

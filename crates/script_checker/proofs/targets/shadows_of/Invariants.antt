@@ -1,8 +1,7 @@
 use Rattle.std.proofs.Common.{◌≡◌, ◌++◌, drop, map}
 use Rattle.rl_defs.specs.Interfaces.{place_of}
-use Rattle.rl_defs.specs.BundleNames.{given_by, names_of}
-use Rattle.rl_defs.specs.Standing.{shadow_given}
-use Rattle.script_checker.specs.Scopes.{number_at, shadows_loaded}
+use Rattle.rl_defs.specs.BundleNames.{given_by, names_of, shadow_given, shadowed as shadows_loaded}
+use Rattle.script_checker.specs.Scopes.{number_at}
 use Rattle.script_checker.proofs.targets.shadows_of.Given as goal
 
 abbrev pub invariant-each : goal.invariant-each

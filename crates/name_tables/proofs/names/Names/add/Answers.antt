@@ -1,7 +1,7 @@
 use Rattle.std.proofs.Common.{ℕ, length, Some, sym, ap, subst, ◌∙◌, nat_eq, arith}
 use Rattle.std.specs.Prelude.{is_some}
 use Rattle.std.specs.Cmp.Lexicographic.{pointwise}
-use Rattle.indexmap.specs.IndexMap.{get, Updates}
+use Rattle.indexmap.specs.IndexMap.{Updates}
 use Rattle.name_tables.proofs.Placing.{placed_again, placed_new}
 use Rattle.name_tables.proofs.names.Names.add.Goals as goal
 

@@ -1,6 +1,5 @@
 use Rattle.std.proofs.Common.{sym, ◌∙◌, arith}
-use Rattle.rl_defs.specs.BundleNames.{load_names}
-use Rattle.rl_defs.specs.Standing.{shadow_names}
+use Rattle.rl_defs.specs.BundleNames.{load_names, shadow_names}
 use Rattle.plan_checker.proofs.Placing.{place_within}
 use Rattle.plan_checker.proofs.Looking.{number_of_load}
 use Rattle.plan_checker.proofs.Tabling.{target_of_shadow, target_of_none}

@@ -1,5 +1,5 @@
 use Rattle.std.proofs.Common.{◌≡◌, ◌+◌, ℕ, sym, subst, ◌∙◌, ap, arith}
-use Rattle.rl_defs.specs.Standing.{target_number}
+use Rattle.rl_defs.specs.LoadOf.{target_number}
 use Rattle.script_checker.specs.Scopes.{Scoped, without_interfaces}
 use Rattle.script_checker.proofs.Naming.{place_within}
 use Rattle.script_checker.proofs.TargetLaws.{number_of_load, number_of_shadow, number_of_none}

@@ -1,5 +1,0 @@
-use Rattle.declared_names.proofs.DomainScan.{DomainTo}
-use Rattle.declared_names.proofs.domains.check_domain.Given as goal
-
-abbrev pub invariant-lines : goal.invariant-lines
-invariant-lines l = DomainTo l.known l.fn.declared.domains l.lines l.line-index l.declared

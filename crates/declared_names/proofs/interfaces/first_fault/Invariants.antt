@@ -1,5 +1,0 @@
-use Rattle.declared_names.proofs.InterfaceScan.{ScanTo}
-use Rattle.declared_names.proofs.interfaces.first_fault.Given as goal
-
-abbrev pub invariant-lines : goal.invariant-lines
-invariant-lines l = ScanTo l.lines l.line-index l.given

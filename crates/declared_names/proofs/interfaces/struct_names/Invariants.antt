@@ -1,6 +1,0 @@
-use Rattle.rl_defs.specs.Interfaces.{struct_name}
-use Rattle.declared_names.proofs.Naming.{NamesTo}
-use Rattle.declared_names.proofs.interfaces.struct_names.Given as goal
-
-abbrev pub invariant-lines : goal.invariant-lines
-invariant-lines l = NamesTo struct_name l.lines l.line-index l.names

@@ -1,6 +1,0 @@
-use Rattle.rl_defs.specs.Interfaces.{trait_name}
-use Rattle.declared_names.proofs.Naming.{NamesTo}
-use Rattle.declared_names.proofs.interfaces.trait_names.Given as goal
-
-abbrev pub invariant-lines : goal.invariant-lines
-invariant-lines l = NamesTo trait_name l.lines l.line-index l.names

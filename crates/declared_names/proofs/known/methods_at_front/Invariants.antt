@@ -1,5 +1,0 @@
-use Rattle.declared_names.proofs.MethodTables.{MethodsTo}
-use Rattle.declared_names.proofs.known.methods_at_front.Given as goal
-
-abbrev pub invariant-lines : goal.invariant-lines
-invariant-lines l = MethodsTo l.lines l.line-index l.names
