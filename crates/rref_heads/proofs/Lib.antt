@@ -1,0 +1,10 @@
+pub mod HeadSums
+pub mod WordNumbers
+pub mod RuleKept
+pub mod ViewRows
+pub mod StepsAllowed
+pub mod SeatsMeet
+pub mod PassLists
+pub mod LastState
+pub mod ClosedTables
+pub mod HeapEvents
