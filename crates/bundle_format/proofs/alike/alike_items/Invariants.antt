@@ -1,0 +1,5 @@
+use Rattle.std.proofs.Common.{◌≡◌, take}
+use Rattle.bundle_format.proofs.alike.alike_items.Given as goal
+
+abbrev pub invariant-items : goal.invariant-items
+invariant-items g l = take l.i l.a ≡ take l.i l.b
