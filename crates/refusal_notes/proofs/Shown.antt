@@ -1,10 +1,11 @@
 -- Lines by their places, and numbers from 1.
-use Rattle.std.proofs.Common.{◌≡◌, ℕ, zero, suc, ◌+◌, ◌≤◌, List, [], ◌∷◌, ◌++◌, append_assoc, map, take, length, Option, Some, None, refl, sym, ap, subst, ◌∙◌, arith}
+use Rattle.std.proofs.Common.{◌≡◌, ℕ, zero, suc, ◌+◌, ◌-◌, ◌≤◌, List, [], ◌∷◌, ◌++◌, append_assoc, map, take, length, Some, None, refl, ap, subst, arith}
 use Rattle.std.specs.Prelude.{slice_get}
+use Rattle.std.proofs.lemmas.List.{append-nil}
 use Rattle.rl_text.specs.declared.line.Line.{Line}
 use Rattle.rl_text.specs.Places.{text_of, IsWithin, AreNumbered}
 use Rattle.rl_defs.specs.Lines.{lines_of}
-use Rattle.refusal_notes.specs.Notes.{shown, shown_line}
+use Rattle.refusal_notes.specs.Notes.{line_of}
 
 pub within : (bytes : List ℕ) (n k : ℕ) (lines : List Line) (line : Line) → AreNumbered bytes n lines → slice_get lines k ≡ Some line → IsWithin bytes line
 within bytes n k [] line h e = absurd cc
@@ -39,6 +40,19 @@ beyond [] k le = refl
 beyond (x ∷ xs) zero le = absurd (omega (arith, le))
 beyond (x ∷ xs) (suc k) le = beyond xs k (omega (arith, le))
 
--- the parts of a note, put one behind the other
-pub joined : (start a b c d e f g h i o1 o2 o3 o4 o5 o6 o7 o8 o9 : List ℕ) → start ≡ [] → o1 ≡ start ++ a → o2 ≡ o1 ++ b → o3 ≡ o2 ++ c → o4 ≡ o3 ++ d → o5 ≡ o4 ++ e → o6 ≡ o5 ++ f → o7 ≡ o6 ++ g → o8 ≡ o7 ++ h → o9 ≡ o8 ++ i → o9 ≡ a ++ (b ++ (c ++ (d ++ (e ++ (f ++ (g ++ (h ++ i)))))))
-joined start a b c d e f g h i o1 o2 o3 o4 o5 o6 o7 o8 o9 s p1 p2 p3 p4 p5 p6 p7 p8 p9 = rw (p9, p8, p7, p6, p5, p4, p3, p2, p1, s) (simp append_assoc)
+-- the line of a number, from 1
+pub line_of_number : (bytes : List ℕ) (n : ℕ) → 1 ≤ n → line_of (Some bytes) n ≡ slice_get (lines_of bytes) (n - 1)
+line_of_number bytes zero le = absurd (omega (arith, le))
+line_of_number bytes (suc n) le =
+    let e : n ≡ suc n - 1 = omega arith in
+    ap (λ (k : ℕ). slice_get (lines_of bytes) k) e
+
+-- parts, put one behind the other
+pub three_parts : (start a b d o1 o2 : List ℕ) → o1 ≡ start ++ a → o2 ≡ o1 ++ b → o2 ++ d ≡ start ++ (a ++ (b ++ d))
+three_parts start a b d o1 o2 p1 p2 = rw (p2, p1) (simp append_assoc)
+
+pub two_parts : (start a b o1 o2 : List ℕ) → start ≡ [] → o1 ≡ start ++ a → o2 ≡ o1 ++ b → o2 ≡ a ++ (b ++ [])
+two_parts start a b o1 o2 s p1 p2 = rw (p2, p1, s, append-nil b) refl
+
+pub four_parts : (start a b c d o1 o2 o3 o4 : List ℕ) → start ≡ [] → o1 ≡ start ++ a → o2 ≡ o1 ++ b → o3 ≡ o2 ++ c → o4 ≡ o3 ++ d → o4 ≡ a ++ (b ++ (c ++ d))
+four_parts start a b c d o1 o2 o3 o4 s p1 p2 p3 p4 = rw (p4, p3, p2, p1, s) (simp append_assoc)

@@ -19,15 +19,20 @@ fn note_of(alloc: Global, text: &str, line: u32, rule: u8) -> Result<String, Fai
 }
 
 #[test]
-fn tells_the_line_and_the_rule(rt: HostRuntime) -> Result<(), Fail> {
+fn tells_the_place_and_the_reason(rt: HostRuntime) -> Result<(), Fail> {
     let said = note_of(
         rt.alloc(),
         "[idl]\npub trait T {\n    fn f(&self) -> u64;\n}\n",
         3,
         20,
     )?;
-    let wanted =
-        "line 3:     fn f(&self) -> u64;\nrule 20: the method's result isn't RpcResult, though each call may fail\ndocs/FORMATS.md explains each rule.\n";
+    let wanted = "3:20: rule 20: the method's result isn't RpcResult, though each call may fail
+    |     fn f(&self) -> u64;
+    |                    ^^^
+found: a result that begins with `u64`
+expected: `RpcResult<..>` round it
+see docs/RULES.md#rule-20
+";
     assert_eq!(rt; said.as_str(), wanted);
     Ok(())
 }
@@ -35,26 +40,48 @@ fn tells_the_line_and_the_rule(rt: HostRuntime) -> Result<(), Fail> {
 #[test]
 fn tells_the_end_of_the_bundle(rt: HostRuntime) -> Result<(), Fail> {
     let said = note_of(rt.alloc(), "[idl]\npub trait T {\n", 3, 2)?;
-    let wanted =
-        "line 3: the end of the bundle\nrule 2: the line may not stand here, or a block before it is left open\ndocs/FORMATS.md explains each rule.\n";
+    let wanted = "3:1: rule 2: the line may not stand here, or a block before it is left open
+found: the end of the bundle
+expected: `}` of the block that line 2 opens
+line 2:
+    | pub trait T {
+see docs/RULES.md#rule-2
+";
     assert_eq!(rt; said.as_str(), wanted);
     Ok(())
 }
 
 #[test]
 fn shows_no_byte_that_a_terminal_obeys(rt: HostRuntime) -> Result<(), Fail> {
-    let said = note_of(rt.alloc(), "\x1b[2J\tx\n", 1, 2)?;
-    assert!(rt; said.as_str().starts_with("line 1: ?[2J?x\n"));
+    let said = note_of(rt.alloc(), "[idl]\n\tx: \x1b[2J\n", 2, 1)?;
+    assert!(rt; said.as_str().contains("\n    |  x: ?[2J\n    |     ^\n"));
+    Ok(())
+}
+
+#[test]
+fn marks_no_more_than_it_shows(rt: HostRuntime) -> Result<(), Fail> {
+    let long = format!(in rt.alloc(); "[plan]\nfuel 1 {:>120}", "$")?;
+    let said = note_of(rt.alloc(), long.as_str(), 2, 1)?;
+    assert!(rt; said.as_str().starts_with("2:127: rule 1: "));
+    assert!(rt; !said.as_str().contains("^"));
     Ok(())
 }
 
 #[test]
 fn tells_what_is_not_built(rt: HostRuntime) -> Result<(), Fail> {
     let said = note_of(rt.alloc(), "[idl]\n", 0, 99)?;
-    assert!(rt;
-        said.as_str()
-            .starts_with("line 0: the whole bundle\nrule 99: ")
-    );
+    let wanted =
+        "rule 99: the bundle uses something that this program can't run yet\nsee docs/RULES.md#rule-99\n";
+    assert_eq!(rt; said.as_str(), wanted);
+    Ok(())
+}
+
+#[test]
+fn tells_what_it_can_without_the_bundle(rt: HostRuntime) -> Result<(), Fail> {
+    let said = note(rt.alloc(), Refusal { line: 7, rule: 33 }, None).map_err(|_| "memory")?;
+    let said = String::from_utf8(said).map_err(|_| "text")?;
+    let wanted = "7:1: rule 33: the function has no such label\nsee docs/RULES.md#rule-33\n";
+    assert_eq!(rt; said.as_str(), wanted);
     Ok(())
 }
 
