@@ -27,7 +27,6 @@ use Rattle.rl_defs.proofs.ValidFacts.{method_kept, moves_none}
 use Rattle.machine_laws.specs.LedgerOf.{ledger_of}
 use Rattle.machine_laws.specs.LedgerSound.{Owned, Placed}
 use Rattle.machine_laws.specs.Shape.{Laid}
-use Rattle.machine_laws.specs.Plans.{Plans, HasTables}
 use Rattle.machine_laws.specs.Fitting.{BodyFits, StackFits, Fitting}
 use Rattle.machine_laws.proofs.Rows.{row_set_same, row_set_other}
 use Rattle.machine_laws.proofs.Stacks.{top_splits}
@@ -38,6 +37,7 @@ use Rattle.machine_laws.proofs.DoneFits.{types_kept}
 use Rattle.machine_laws.proofs.BegunFits.{begun_fits}
 use Rattle.machine_laws.proofs.EndSteps.{moves_nothing, top_call, ready_within}
 use Rattle.machine_laws.proofs.Parts.{load_of_instance}
+use Rattle.rl_defs.specs.Valid.{Valid, AreValidTables}
 
 -- arguments of which none was moved suit as they did
 pub stands_suits : (types : Typing) (kinds : List Kind) (args : List Arg) → moved_of args ≡ [] → args_stand types kinds args ≡ true → args_suit types kinds args ≡ true
@@ -49,7 +49,7 @@ stands_suits types (k ∷ kinds) (arg.Moved o ∷ args) none stand = absurd cc
 stands_suits types [] (a ∷ args) none stand = absurd cc
 stands_suits types (k ∷ kinds) [] none stand = absurd cc
 
-module _ (L : LoadRows) (s : State) (plans : Plans L) (tables : HasTables L.tables) (laid : Laid L s) (owned : Owned L (ledger_of L s)) (placed : Placed L (ledger_of L s)) (fits : Fitting L s) (t c x i : ℕ) (made : State)
+module _ (L : LoadRows) (s : State) (plans : Valid L) (tables : AreValidTables L.tables) (laid : Laid L s) (owned : Owned L (ledger_of L s)) (placed : Placed L (ledger_of L s)) (fits : Fitting L s) (t c x i : ℕ) (made : State)
     (ready : is_undone (row s.threads t) ≡ true) (r : IssuesAgain L s t c x i made) (owned' : Owned L (ledger_of L (sweep_state made))) where
   abbrev z : State
   z = sweep_state made

@@ -28,7 +28,6 @@ use Rattle.rl_defs.proofs.ValidFacts.{domain_at, domain_tables, method_by_trait 
 use Rattle.machine_laws.specs.LedgerOf.{ledger_of}
 use Rattle.machine_laws.specs.LedgerSound.{Owned}
 use Rattle.machine_laws.specs.Shape.{Laid}
-use Rattle.machine_laws.specs.Plans.{Plans}
 use Rattle.machine_laws.specs.Fitting.{BodyFits}
 use Rattle.machine_laws.proofs.Seats.{IsIn}
 use Rattle.machine_laws.proofs.Present.{own_root, lent_root, seated}
@@ -40,9 +39,10 @@ use Rattle.machine_laws.proofs.CodeDoing.{load_there}
 use Rattle.machine_laws.proofs.CallSteps.{begun_entry}
 use Rattle.machine_laws.proofs.DoingFits.{code_on_top, native_on_top}
 use Rattle.machine_laws.proofs.Counts.{has_counted}
+use Rattle.rl_defs.specs.Valid.{Valid}
 
 -- the arguments of a method, over the tables of the domain that has it
-abbrev pub arguments_fit : (L : LoadRows) (x m : ℕ) (args : List Arg) (types : Typing) (method : MethodRow) → Plans L → is_target L x ≡ true → method_of L x m ≡ Some method → args_suit types method.params args ≡ true → FitsArguments types (domain_of_load L (load_of_target L x)) m args
+abbrev pub arguments_fit : (L : LoadRows) (x m : ℕ) (args : List Arg) (types : Typing) (method : MethodRow) → Valid L → is_target L x ≡ true → method_of L x m ≡ Some method → args_suit types method.params args ≡ true → FitsArguments types (domain_of_load L (load_of_target L x)) m args
 arguments_fit L x m args types method plans target row suits =
     let d : Domain = domain_of_load L (load_of_target L x) in
     let tables : d.tables ≡ L.tables = domain_tables L plans (load_of_target L x) in
@@ -63,7 +63,7 @@ method_begun L x m place args types method given row same at lt =
     let function = entry_function d types m place args given at lt in
     ap (method_of_function d) function ∙ ap (row_at (methods_of d.tables (domain_trait d))) given.named ∙ given.row ∙ ap (λ r. Some r) same ∙ sym row
 
-module _ (L : LoadRows) (made : State) (plans : Plans L) (laid : Laid L made) (laid' : Laid L (sweep_state made)) (owned' : Owned L (ledger_of L (sweep_state made))) (t c x i m : ℕ) (args : List Arg) (f : StackFrame) (below : List StackFrame) (types : Typing) (method : MethodRow)
+module _ (L : LoadRows) (made : State) (plans : Valid L) (laid : Laid L made) (laid' : Laid L (sweep_state made)) (owned' : Owned L (ledger_of L (sweep_state made))) (t c x i m : ℕ) (args : List Arg) (f : StackFrame) (below : List StackFrame) (types : Typing) (method : MethodRow)
     (begins : Begins L made c x i m args f) (here : stack made t ≡ below ++ f ∷ []) (target : is_target L x ≡ true) (row : method_of L x m ≡ Some method) (suits : args_suit types method.params args ≡ true)
     (typed : (o : ℕ) → IsIn (sweep_state made) o → (types_of L (sweep_state made)).struct_of o ≡ types.struct_of o) (traits : (y : ℕ) → (types_of L (sweep_state made)).trait_of y ≡ types.trait_of y)
     (apart : (o : ℕ) → 0 < count o (moved_of args) → 0 < count o (lent_of args) → ⊥) (load' : instance_load made i ≡ load_of_target L x) where

@@ -25,7 +25,6 @@ use Rattle.machine_defs.specs.Steps.{Row as RowOf}
 use Rattle.machine_laws.specs.LedgerOf.{ledger_of}
 use Rattle.machine_laws.specs.LedgerSound.{Owned, Placed}
 use Rattle.machine_laws.specs.Shape.{Laid}
-use Rattle.machine_laws.specs.Plans.{Plans, HasTables}
 use Rattle.machine_laws.specs.Fitting.{StackFits, Fitting}
 use Rattle.machine_laws.proofs.Instances.{loads_kept}
 use Rattle.machine_laws.proofs.Acting.{acts_as}
@@ -39,8 +38,9 @@ use Rattle.machine_laws.proofs.RepliedFits.{replied_fits}
 use Rattle.machine_laws.proofs.CalledFits.{called_fits}
 use Rattle.machine_laws.proofs.RefusedFits.{refused_fits}
 use Rattle.machine_laws.proofs.AgainFits.{again_fits}
+use Rattle.rl_defs.specs.Valid.{Valid, AreValidTables}
 
-module _ (L : LoadRows) (s : State) (plans : Plans L) (tables : HasTables L.tables) (laid : Laid L s) (owned : Owned L (ledger_of L s)) (placed' : Placed L (ledger_of L s)) (fits : Fitting L s) (clients : ClientsCall L s) where
+module _ (L : LoadRows) (s : State) (plans : Valid L) (tables : AreValidTables L.tables) (laid : Laid L s) (owned : Owned L (ledger_of L s)) (placed' : Placed L (ledger_of L s)) (fits : Fitting L s) (clients : ClientsCall L s) where
   -- the stacks of a state fit
   abbrev pub AllFit : State → Type 0
   AllFit made = (u : ℕ) → StackFits L (sweep_state made) (stack (sweep_state made) u)

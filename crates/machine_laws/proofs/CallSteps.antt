@@ -28,7 +28,6 @@ use Rattle.machine_laws.specs.LedgerOf.{frame_entry, ledger_of}
 use Rattle.machine_laws.specs.LedgerSound.{Owned}
 use Rattle.machine_laws.specs.LedgerRows.{MayPass, callee, Row}
 use Rattle.machine_laws.specs.Shape.{Laid}
-use Rattle.machine_laws.specs.Plans.{Plans, HasTables}
 use Rattle.machine_laws.specs.Fitting.{Fitting}
 use Rattle.machine_laws.proofs.Seats.{IsIn}
 use Rattle.machine_laws.proofs.Present.{seated}
@@ -39,6 +38,7 @@ use Rattle.machine_laws.proofs.Callers.{frame_caller, calls_well}
 use Rattle.machine_laws.proofs.Owners.{top_root}
 use Rattle.machine_laws.proofs.Counts.{has_counted, counted_has}
 use Rattle.machine_laws.proofs.Parts.{is_none_code}
+use Rattle.rl_defs.specs.Valid.{Valid, AreValidTables}
 
 -- A wished call, whoever makes it: its caller in the ledger, and what it is of.
 pub record Called (L : LoadRows) (s : State) (t : ℕ) (w : Wish) : Type 0 where
@@ -50,7 +50,7 @@ pub record Called (L : LoadRows) (s : State) (t : ℕ) (w : Wish) : Type 0 where
   pub passes : MayPass caller.f w.args caller.own
   pub apart : (o : ℕ) → 0 < count o (moved_of w.args) → 0 < count o (lent_of w.args) → ⊥
 
-pub frame_called : (L : LoadRows) (s : State) (t : ℕ) → Plans L → HasTables L.tables → Laid L s → Owned L (ledger_of L s) → Fitting L s → is_undone (row s.threads t) ≡ true → (w : Wish) → FrameWish L s t w → Called L s t w
+pub frame_called : (L : LoadRows) (s : State) (t : ℕ) → Valid L → AreValidTables L.tables → Laid L s → Owned L (ledger_of L s) → Fitting L s → is_undone (row s.threads t) ≡ true → (w : Wish) → FrameWish L s t w → Called L s t w
 frame_called L s t plans tables laid owned fits ready w wished =
     let well = calls_well L s t plans tables laid owned fits ready w wished in
     record {
@@ -67,7 +67,7 @@ frame_called L s t plans tables laid owned fits ready w wished =
 abbrev pub ClientsCall : LoadRows → State → Type 0
 ClientsCall L s = (t : ℕ) (w : Wish) → is_undone (row s.threads t) ≡ true → ClientWish L s t w → Called L s t w
 
-pub called : (L : LoadRows) (s : State) (t : ℕ) → Plans L → HasTables L.tables → Laid L s → Owned L (ledger_of L s) → Fitting L s → ClientsCall L s → is_undone (row s.threads t) ≡ true → (w : Wish) → wish L s t ≡ Some w → Called L s t w
+pub called : (L : LoadRows) (s : State) (t : ℕ) → Valid L → AreValidTables L.tables → Laid L s → Owned L (ledger_of L s) → Fitting L s → ClientsCall L s → is_undone (row s.threads t) ≡ true → (w : Wish) → wish L s t ≡ Some w → Called L s t w
 called L s t plans tables laid owned fits clients ready w wants = elim (wish_as L s t w wants) [
   | inl by_client ↦ clients t w ready by_client
   | inr by_frame ↦ frame_called L s t plans tables laid owned fits ready w by_frame
@@ -125,7 +125,7 @@ moved_there L s charged t args owned caller passes o is =
     let some = has_counted (moved_of args) o is in
     seated s o (Root caller.f.party) (top_root L (ledger_of L s) owned t caller.f caller.fs caller.runs o (omega (arith, gone, some)))
 
-module _ (L : LoadRows) (s : State) (plans : Plans L) (tables : HasTables L.tables) (laid : Laid L s) (owned : Owned L (ledger_of L s)) (fits : Fitting L s) (clients : ClientsCall L s) where
+module _ (L : LoadRows) (s : State) (plans : Valid L) (tables : AreValidTables L.tables) (laid : Laid L s) (owned : Owned L (ledger_of L s)) (fits : Fitting L s) (clients : ClientsCall L s) where
   pub calls : (t c x i m : ℕ) (args : List Arg) (z : State) → is_enabled L s t ≡ true → Calls L s t c x i m args z → Row L (ledger_of L s) (entry.Call t c x i m args) (ledger_of L z)
   calls t c x i m args z enabled r =
       let ready = (not_waiting L s t enabled).0 in

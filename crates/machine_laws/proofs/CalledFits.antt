@@ -38,7 +38,6 @@ use Rattle.rl_defs.proofs.ValidFacts.{domain_tables}
 use Rattle.machine_laws.specs.LedgerOf.{ledger_of}
 use Rattle.machine_laws.specs.LedgerSound.{Owned, Placed}
 use Rattle.machine_laws.specs.Shape.{Laid}
-use Rattle.machine_laws.specs.Plans.{Plans, HasTables}
 use Rattle.machine_laws.specs.Registers.{Parted}
 use Rattle.machine_laws.specs.Fitting.{BodyFits, CodeWaits, StackFits, Fitting}
 use Rattle.machine_laws.proofs.Rows.{row_set_same, row_set_other}
@@ -62,6 +61,7 @@ use Rattle.machine_laws.proofs.BegunFits.{begun_fits}
 use Rattle.machine_laws.proofs.EndSteps.{ready_within}
 use Rattle.machine_laws.proofs.Charged.{stack_charged, instances_charged, others_charged, count_charged}
 use Rattle.machine_laws.proofs.Parts.{load_of_instance, words_in}
+use Rattle.rl_defs.specs.Valid.{Valid, AreValidTables}
 
 -- an instruction that calls a method
 pub record IsCall (d : Domain) (kinds : Kinds) (i : Instr) (method : MethodRow) : Type 0 where
@@ -78,7 +78,7 @@ pub is_call : (d : Domain) (kinds : Kinds) (i : Instr) (method : MethodRow) → 
 is_call d kinds (instr.Call c name args results failed label) method e = record { target = c; name = name; args = args; results = results; failed = failed; label = label; is = refl; calls = e }
 is_call d kinds other method e = absurd cc
 
-module _ (L : LoadRows) (s : State) (plans : Plans L) (tables : HasTables L.tables) (laid : Laid L s) (owned : Owned L (ledger_of L s)) (fits : Fitting L s) (t : ℕ) (ready : is_undone (row s.threads t) ≡ true) (w : Wish) (wished : FrameWish L s t w) where
+module _ (L : LoadRows) (s : State) (plans : Valid L) (tables : AreValidTables L.tables) (laid : Laid L s) (owned : Owned L (ledger_of L s)) (fits : Fitting L s) (t : ℕ) (ready : is_undone (row s.threads t) ≡ true) (w : Wish) (wished : FrameWish L s t w) where
   abbrev caller : StackFrame
   caller = caller_frame L s t plans tables laid owned fits ready w wished
 
@@ -127,7 +127,7 @@ module _ (L : LoadRows) (s : State) (plans : Plans L) (tables : HasTables L.tabl
           let wants : kept ≡ action.Call g.target g.method g.args = sym same.1 ∙ sym (ap₂ (λ h k. action.Call h k g.args) target method ∙ ap (action.Call w.target w.method) args) in
           subst (λ (h : StackFrame). BodyFits L s h (g ∷ []) h.body) (sym waits_is) (before'.0, wants)
 
-module _ (L : LoadRows) (s : State) (plans : Plans L) (tables : HasTables L.tables) (laid : Laid L s) (owned : Owned L (ledger_of L s)) (placed : Placed L (ledger_of L s)) (fits : Fitting L s) (clients : ClientsCall L s) (t c x i m : ℕ) (args : List Arg) (made : State)
+module _ (L : LoadRows) (s : State) (plans : Valid L) (tables : AreValidTables L.tables) (laid : Laid L s) (owned : Owned L (ledger_of L s)) (placed : Placed L (ledger_of L s)) (fits : Fitting L s) (clients : ClientsCall L s) (t c x i m : ℕ) (args : List Arg) (made : State)
     (enabled : is_enabled L s t ≡ true) (r : Calls L s t c x i m args made) (owned' : Owned L (ledger_of L (sweep_state made))) where
   abbrev z : State
   z = sweep_state made

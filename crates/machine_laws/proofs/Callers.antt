@@ -34,7 +34,6 @@ use Rattle.machine_laws.specs.LedgerOf.{frame_entry, ledger_of}
 use Rattle.machine_laws.specs.LedgerSound.{Owned}
 use Rattle.machine_laws.specs.LedgerRows.{MayPass, IsBelow, IsOutranked}
 use Rattle.machine_laws.specs.Shape.{Laid}
-use Rattle.machine_laws.specs.Plans.{Plans, HasTables}
 use Rattle.machine_laws.specs.Registers.{own}
 use Rattle.machine_laws.specs.Fitting.{BodyFits, Fitting}
 use Rattle.machine_laws.proofs.Tops.{bottom, entries, under, entries_top, runs_frame}
@@ -53,9 +52,10 @@ use Rattle.machine_laws.proofs.OwnFunctions.{instr_here}
 use Rattle.machine_laws.proofs.Counting.{taken}
 use Rattle.machine_laws.proofs.Counts.{has_counted, counted_has, none_counted}
 use Rattle.machine_laws.proofs.Parts.{moved_by_instr}
+use Rattle.rl_defs.specs.Valid.{Valid, AreValidTables}
 
 -- the methods of a target are those of its trait
-pub method_by_trait : (L : LoadRows) (x m : ℕ) → Plans L → is_target L x ≡ true → method_of L x m ≡ slice_get (methods_of L.tables (trait_if L (is_target L x) x)) m
+pub method_by_trait : (L : LoadRows) (x m : ℕ) → Valid L → is_target L x ≡ true → method_of L x m ≡ slice_get (methods_of L.tables (trait_if L (is_target L x) x)) m
 method_by_trait L x m plans target = trait_method L plans x m target
 
 -- what has a method is a target
@@ -119,7 +119,7 @@ each_either P (p ∷ os) is o some =
       | inr e ↦ each_either P os parts.1 o (let z : count o (p ∷ os) ≡ 0 + count o os = ap (λ b. cond b 1 0 + count o os) e in omega (arith, some, z))
     ]
 
-module _ (L : LoadRows) (s : State) (t : ℕ) (plans : Plans L) (tables : HasTables L.tables) (laid : Laid L s) (owned : Owned L (ledger_of L s)) (fits : Fitting L s) (ready : is_undone (row s.threads t) ≡ true) (w : Wish) (wished : FrameWish L s t w) where
+module _ (L : LoadRows) (s : State) (t : ℕ) (plans : Valid L) (tables : AreValidTables L.tables) (laid : Laid L s) (owned : Owned L (ledger_of L s)) (fits : Fitting L s) (ready : is_undone (row s.threads t) ≡ true) (w : Wish) (wished : FrameWish L s t w) where
   abbrev pub calling : ActsAs L s t (action.Call w.target w.method w.args) wished.fuel wished.frame
   calling = acts_as L s t (action.Call w.target w.method w.args) wished.fuel wished.frame wished.wants
 

@@ -24,7 +24,6 @@ use Rattle.machine_laws.specs.Ledger.{LedgerFrame, lent_in}
 use Rattle.machine_laws.specs.LedgerOf.{ledger_of}
 use Rattle.machine_laws.specs.LedgerSound.{Owned, Placed}
 use Rattle.machine_laws.specs.Shape.{Laid}
-use Rattle.machine_laws.specs.Plans.{Plans, HasTables}
 use Rattle.machine_laws.specs.Fitting.{CallsFit, Fitting}
 use Rattle.machine_laws.proofs.Acting.{acts_as}
 use Rattle.machine_laws.proofs.Wishes.{wish_as}
@@ -37,6 +36,7 @@ use Rattle.machine_laws.proofs.StepRows.{ClientFacts}
 use Rattle.machine_laws.proofs.CallsKnown.{Known, KnownIn, args_suiting, known_same, known_top, known_below, known_push, known_set, known_topped, known_stacks, known_replied, known_before, known_behind}
 use Rattle.machine_laws.proofs.Sums.{sum_least}
 use Rattle.machine_laws.proofs.Counts.{has_counted}
+use Rattle.rl_defs.specs.Valid.{Valid, AreValidTables}
 
 module _ (L : LoadRows) (s : State) (known : KnownIn L s s) where
   -- the frame that did something is on top with another body
@@ -114,7 +114,7 @@ module _ (L : LoadRows) (s : State) (laid : Laid L s) (owned : Owned L (ledger_o
         there = λ o h. lent_there t w k o (subst (λ os. has os o ≡ true) lent h);
       }
 
-module _ (L : LoadRows) (s : State) (plans : Plans L) (tables : HasTables L.tables) (laid : Laid L s) (owned : Owned L (ledger_of L s)) (fits : Fitting L s) (clients : ClientFacts L s) where
+module _ (L : LoadRows) (s : State) (plans : Valid L) (tables : AreValidTables L.tables) (laid : Laid L s) (owned : Owned L (ledger_of L s)) (fits : Fitting L s) (clients : ClientFacts L s) where
   known : KnownIn L s s
   known = known_before L s laid owned fits.calls
 
@@ -159,7 +159,7 @@ module _ (L : LoadRows) (s : State) (plans : Plans L) (tables : HasTables L.tabl
   known_row other made enabled r = known_stacks L s s made (ap (λ (y : State). y.stacks) r.becomes) known
 
 -- the calls of all frames fit after a row and its sweep
-pub calls_kept : (L : LoadRows) (s : State) (e : Entry) (made : State) → Plans L → HasTables L.tables → Laid L s → Owned L (ledger_of L s) → Placed L (ledger_of L s) → Fitting L s → ClientFacts L s → RowOf L s e made → is_enabled L s (thread_of e) ≡ true → Owned L (ledger_of L (sweep_state made))
+pub calls_kept : (L : LoadRows) (s : State) (e : Entry) (made : State) → Valid L → AreValidTables L.tables → Laid L s → Owned L (ledger_of L s) → Placed L (ledger_of L s) → Fitting L s → ClientFacts L s → RowOf L s e made → is_enabled L s (thread_of e) ≡ true → Owned L (ledger_of L (sweep_state made))
     → (u : ℕ) → CallsFit L (sweep_state made) (stack (sweep_state made) u)
 calls_kept L s e made plans tables laid owned placed fits clients r enabled owned' =
     known_behind L s e made laid owned placed r owned' (known_row L s plans tables laid owned fits clients e made enabled r)

@@ -15,15 +15,15 @@ use Rattle.machine_defs.specs.Calling.{with_fuel}
 use Rattle.machine_laws.specs.LedgerOf.{ledger_of}
 use Rattle.machine_laws.specs.LedgerSound.{Owned}
 use Rattle.machine_laws.specs.Shape.{Laid}
-use Rattle.machine_laws.specs.Plans.{Plans, HasTables}
 use Rattle.machine_laws.specs.Fitting.{Fitting}
 use Rattle.machine_laws.proofs.Rows.{row_set_same, row_set_other}
 use Rattle.machine_laws.proofs.FrameRows.{gone_on}
 use Rattle.machine_laws.proofs.Wishes.{FrameWish}
 use Rattle.machine_laws.proofs.Callers.{caller_frame, waits, native_calls}
 use Rattle.machine_laws.proofs.EndSteps.{ready_within}
+use Rattle.rl_defs.specs.Valid.{Valid, AreValidTables}
 
-module _ (L : LoadRows) (s : State) (plans : Plans L) (tables : HasTables L.tables) (laid : Laid L s) (owned : Owned L (ledger_of L s)) (fits : Fitting L s) (t : ℕ) (ready : is_undone (row s.threads t) ≡ true) (w : Wish) (wished : FrameWish L s t w) where
+module _ (L : LoadRows) (s : State) (plans : Valid L) (tables : AreValidTables L.tables) (laid : Laid L s) (owned : Owned L (ledger_of L s)) (fits : Fitting L s) (t : ℕ) (ready : is_undone (row s.threads t) ≡ true) (w : Wish) (wished : FrameWish L s t w) where
   abbrev caller : StackFrame
   caller = caller_frame L s t plans tables laid owned fits ready w wished
 

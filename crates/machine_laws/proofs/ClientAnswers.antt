@@ -29,10 +29,10 @@ use Rattle.rl_defs.proofs.ValidFacts.{command_fits, lends_none, method_kept}
 use Rattle.machine_laws.specs.LedgerOf.{names_held}
 use Rattle.machine_laws.specs.LedgerRows.{Exchanged}
 use Rattle.rl_defs.proofs.Lists.{contains_at}
-use Rattle.machine_laws.specs.Plans.{Plans}
 use Rattle.machine_laws.specs.AtCall.{IsCallOf}
 use Rattle.machine_laws.proofs.ClientRows.{bind_none}
 use Rattle.machine_laws.proofs.NameBinds.{Unused, count_bound}
+use Rattle.rl_defs.specs.Valid.{Valid}
 
 pub are_length : (types : Typing) (kinds : List Kind) (values : List Value) → are_values types kinds values ≡ true → length values ≡ length kinds
 are_length types kinds values is = sym (as_many types kinds values is)
@@ -61,7 +61,7 @@ no_objects types (kind.Num w ∷ kinds) (value.Obj p ∷ values) is none unlent 
 no_objects types (kind.Cap t ∷ kinds) (value.Obj p ∷ values) is none unlent o = absurd cc
 
 -- where the command at a thread's place is the call, its names hold the results that come back
-module _ (L : LoadRows) (t : ℕ) (plans : Plans L) (thread : Thread) (x m : ℕ) (calls : IsCallOf (slice_get (commands_of (row L.clients t)) thread.place) x m) where
+module _ (L : LoadRows) (t : ℕ) (plans : Valid L) (thread : Thread) (x m : ℕ) (calls : IsCallOf (slice_get (commands_of (row L.clients t)) thread.place) x m) where
   call_fits : CallFits L t thread.place x m calls.0 calls.1
   call_fits = command_fits L plans t thread.place (command.Call x m calls.0 calls.1) calls.2
 

@@ -29,7 +29,6 @@ use Rattle.machine_defs.specs.Wants.{by_body, settled}
 use Rattle.machine_defs.specs.Frames.{below_top, with_body}
 use Rattle.rl_defs.proofs.ValidFacts.{domain_at, domain_tables}
 use Rattle.machine_laws.specs.Shape.{Laid}
-use Rattle.machine_laws.specs.Plans.{Plans, HasTables}
 use Rattle.machine_laws.specs.Registers.{Parted, own}
 use Rattle.machine_laws.specs.Fitting.{CodeRuns, BodyFits, StackFits, Fitting}
 use Rattle.machine_laws.proofs.Stacks.{top_splits}
@@ -43,10 +42,11 @@ use Rattle.machine_laws.proofs.OwnFits.{FitsAct, act_fits}
 use Rattle.machine_laws.proofs.OwnFunctions.{settle_function}
 use Rattle.machine_laws.proofs.Rows.{item_there}
 use Rattle.machine_laws.proofs.Parts.{load_of_instance}
+use Rattle.rl_defs.specs.Valid.{Valid, AreValidTables}
 
 -- what the rules of interfaces leave in the tables
-pub has_tables : (L : LoadRows) (k : ℕ) → Plans L → HasTables L.tables → HasTables (domain_of_load L k).tables
-has_tables L k plans tables = subst HasTables (sym (domain_tables L plans k)) tables
+pub has_tables : (L : LoadRows) (k : ℕ) → Valid L → AreValidTables L.tables → AreValidTables (domain_of_load L k).tables
+has_tables L k plans tables = subst AreValidTables (sym (domain_tables L plans k)) tables
 
 -- where register work has come to
 pub record Settles (L : LoadRows) (s : State) (f : StackFrame) (at fuel : ℕ) (regs : Registers) (act : Action) (rest : ℕ) (frame : StackFrame) : Type 0 where
@@ -71,7 +71,7 @@ load_there L zero pos le = absurd (omega arith)
 load_there L (suc k) pos le = item_there L.loads k (omega arith)
 
 -- the domain of a live instance keeps the rules
-pub keeps_rules : (L : LoadRows) (s : State) (i : ℕ) → Plans L → Fitting L s → is_live s i ≡ true → KeepsRules (domain_of_instance L s i)
+pub keeps_rules : (L : LoadRows) (s : State) (i : ℕ) → Valid L → Fitting L s → is_live s i ≡ true → KeepsRules (domain_of_instance L s i)
 keeps_rules L s i plans fits lives =
     let x = live_there s i lives in
     let f = fits.instances i x.0 x.1 in
@@ -95,7 +95,7 @@ pub record CodeDoes (L : LoadRows) (s : State) (f : StackFrame) (at fuel : ℕ) 
 abbrev pub NotTrap : Action → Type 0
 NotTrap act = (c : Cause) → act ≡ action.Trap c → ⊥
 
-module _ (L : LoadRows) (s : State) (plans : Plans L) (tables : HasTables L.tables) (laid : Laid L s) (fits : Fitting L s) (t : ℕ) (act : Action) (rest : ℕ) (frame : StackFrame) (doing : ActsAs L s t act rest frame) where
+module _ (L : LoadRows) (s : State) (plans : Valid L) (tables : AreValidTables L.tables) (laid : Laid L s) (fits : Fitting L s) (t : ℕ) (act : Action) (rest : ℕ) (frame : StackFrame) (doing : ActsAs L s t act rest frame) where
   pub body_fits : BodyFits L s doing.f [] doing.f.body
   body_fits =
       let split = top_splits (stack s t) doing.f doing.on_top in

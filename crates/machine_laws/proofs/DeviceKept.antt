@@ -12,11 +12,11 @@ use Rattle.machine_defs.specs.Loans.{object_of, sweep}
 use Rattle.machine_defs.specs.Objects.{kinds_of, cells_in}
 use Rattle.machine_defs.specs.Steps.{Row}
 use Rattle.machine_laws.specs.Shape.{Laid}
-use Rattle.machine_laws.specs.Plans.{Plans, HasTables}
 use Rattle.machine_laws.specs.Fitting.{BlockFits, DeviceFits, Fitting}
 use Rattle.machine_laws.proofs.Moves.{IsSave, Moves, row_moves}
 use Rattle.machine_laws.proofs.CellsFit.{cells_block}
 use Rattle.machine_laws.proofs.ObjectsKept.{does_fit}
+use Rattle.rl_defs.specs.Valid.{Valid, AreValidTables}
 
 abbrev BlocksStay : State → State → Type 0
 BlocksStay s z = z.blocks ≡ s.blocks
@@ -50,7 +50,7 @@ set_block (x ∷ blocks) zero (suc j) new cells is = inr is
 set_block (x ∷ blocks) (suc b) zero new cells is = inr is
 set_block (x ∷ blocks) (suc b) (suc j) new cells is = set_block blocks b j new cells is
 
-module _ (L : LoadRows) (s : State) (plans : Plans L) (tables : HasTables L.tables) (laid : Laid L s) (fits : Fitting L s) where
+module _ (L : LoadRows) (s : State) (plans : Valid L) (tables : AreValidTables L.tables) (laid : Laid L s) (fits : Fitting L s) where
   -- the cells of an object that holds a block
   held_block : (o : ℕ) → has_cells 64 width.W64 (kinds_of L (object_of s o)) ≡ true → BlockFits (cells_in (object_of s o))
   held_block o holds = go (object_of s o) refl holds
@@ -72,5 +72,5 @@ module _ (L : LoadRows) (s : State) (plans : Plans L) (tables : HasTables L.tabl
       })
   device_row made e makes = subst (DeviceFits L) (sym (row_moves L BlocksStay e (block_moves L e (λ saves. saves)) s made makes)) fits.device
 
-pub device_fit : (L : LoadRows) (s : State) (e : Entry) (made : State) → Plans L → HasTables L.tables → Laid L s → Fitting L s → Row L s e made → DeviceFits L (sweep made).blocks
+pub device_fit : (L : LoadRows) (s : State) (e : Entry) (made : State) → Valid L → AreValidTables L.tables → Laid L s → Fitting L s → Row L s e made → DeviceFits L (sweep made).blocks
 device_fit L s e made plans tables laid fits makes = device_row L s plans tables laid fits made e makes

@@ -22,7 +22,6 @@ use Rattle.machine_defs.specs.Seen.{domain_of_instance}
 use Rattle.machine_defs.specs.Seen.{types_of}
 use Rattle.machine_defs.specs.Frames.{Answers, AnswersBody, with_body, instr_at, answered_code, code_at}
 use Rattle.machine_laws.specs.LedgerRows.{Exchanged}
-use Rattle.machine_laws.specs.Plans.{Plans, HasTables}
 use Rattle.machine_laws.specs.Registers.{Parted, Retyped, own, given_away, used, shown, received}
 use Rattle.machine_laws.specs.Fitting.{Fitting}
 use Rattle.machine_laws.proofs.OwnEntries.{stand_retyped}
@@ -31,6 +30,7 @@ use Rattle.machine_laws.proofs.OwnAnswers.{Unlent, GainsOwn, answer_gains}
 use Rattle.machine_laws.proofs.OwnFunctions.{instr_here, answer_function}
 use Rattle.machine_laws.proofs.CodeDoing.{NotTrap, CodeDoes, has_tables, keeps_rules}
 use Rattle.machine_laws.proofs.Parts.{stand_after}
+use Rattle.rl_defs.specs.Valid.{Valid, AreValidTables}
 
 pub pays_of : (lent : List ℕ) (old new : Registers) (act : Action) → NotTrap act → PaysAct lent old new act → Pays lent old new act
 pays_of lent old new (action.Trap c) no_trap pays = absurd (no_trap c refl)
@@ -48,7 +48,7 @@ pub record CodeAfter (types : Typing) (L : LoadRows) (d : Domain) (f after : Sta
   pub keeps : (p : ℕ) → 0 < count p (used act) → 0 < count p (own f.lent stand.regs)
   pub shows : (p : ℕ) → 0 < count p (shown act) → (0 < count p (own f.lent regs)) ⊎ (has f.lent p ≡ true)
 
-module _ (L : LoadRows) (s z : State) (plans : Plans L) (tables : HasTables L.tables) (fits : Fitting L s) (f after frame : StackFrame) (act : Action) (a : Answer) (at fuel rest : ℕ) (regs : Registers) (lives : is_live s f.instance ≡ true)
+module _ (L : LoadRows) (s z : State) (plans : Valid L) (tables : AreValidTables L.tables) (fits : Fitting L s) (f after frame : StackFrame) (act : Action) (a : Answer) (at fuel rest : ℕ) (regs : Registers) (lives : is_live s f.instance ≡ true)
     (no_trap : NotTrap act) (c : CodeDoes L s f at fuel regs act rest frame) (load' : instance_load z f.instance ≡ instance_load s f.instance) (types : Typing) (re : Retyped (types_of L s) types c.at_rest.stand.regs)
     (answers : FitsAnswer types (domain_of_instance L s f.instance) (kinds_at (domain_of_instance L s f.instance) c.at_rest.stand.at) c.instr a) (unlent : Unlent f.lent (received a)) (gets : Answers L z frame a after) where
   abbrev d : Domain

@@ -31,7 +31,6 @@ use Rattle.machine_defs.specs.Steps.{Row as RowOf}
 use Rattle.machine_laws.specs.LedgerOf.{ledger_of}
 use Rattle.machine_laws.specs.LedgerSound.{Owned, Placed}
 use Rattle.machine_laws.specs.Shape.{Laid}
-use Rattle.machine_laws.specs.Plans.{Plans, HasTables}
 use Rattle.machine_laws.specs.Registers.{Parted, Retyped, received}
 use Rattle.machine_laws.specs.Fitting.{BodyFits, StackFits, Fitting}
 use Rattle.machine_laws.proofs.Rows.{row_set_same, row_set_other}
@@ -48,6 +47,7 @@ use Rattle.machine_laws.proofs.OwnAnswers.{Unlent}
 use Rattle.machine_laws.proofs.CodeDoing.{body_fits}
 use Rattle.machine_laws.proofs.OwnDoing.{IsDone, Answered, code_went, native_went}
 use Rattle.machine_laws.proofs.Agreeing.{laid_z, all_fit, changed_fits}
+use Rattle.rl_defs.specs.Valid.{Valid, AreValidTables}
 
 -- the same choice, whatever the frame's body
 pub choice_moved : (L : LoadRows) (s : State) (f : StackFrame) (b : FrameBody Action) (held : List ℕ) (act : Action) → CanChoose L s f held act → CanChoose L s (with_body f b) held act
@@ -93,7 +93,7 @@ native_on_top L made t below f after held next laid laid' owned is here lives na
           refl refl can),
     )
 
-module _ (L : LoadRows) (s : State) (e : Entry) (made : State) (plans : Plans L) (tables : HasTables L.tables) (laid : Laid L s) (owned : Owned L (ledger_of L s)) (placed : Placed L (ledger_of L s)) (fits : Fitting L s) (r : RowOf L s e made) (owned' : Owned L (ledger_of L (sweep_state made)))
+module _ (L : LoadRows) (s : State) (e : Entry) (made : State) (plans : Valid L) (tables : AreValidTables L.tables) (laid : Laid L s) (owned : Owned L (ledger_of L s)) (placed : Placed L (ledger_of L s)) (fits : Fitting L s) (r : RowOf L s e made) (owned' : Owned L (ledger_of L (sweep_state made)))
     (t : ℕ) (ready : is_undone (row s.threads t) ≡ true) where
   abbrev z : State
   z = sweep_state made

@@ -17,7 +17,6 @@ use Rattle.machine_defs.specs.Steps.{Row as RowOf}
 use Rattle.machine_laws.specs.LedgerOf.{ledger_of}
 use Rattle.machine_laws.specs.LedgerSound.{Owned, Placed}
 use Rattle.machine_laws.specs.Shape.{Laid}
-use Rattle.machine_laws.specs.Plans.{Plans, HasTables}
 use Rattle.machine_laws.specs.Fitting.{StackFits, Fitting}
 use Rattle.machine_laws.proofs.Seats.{IsIn}
 use Rattle.machine_laws.proofs.Types.{Unchanged, AnyHow, structs_same, stays_sweep}
@@ -31,8 +30,9 @@ use Rattle.machine_laws.proofs.StaysRows.{stays_swept, new_stays}
 use Rattle.machine_laws.proofs.Agreeing.{other_fits}
 use Rattle.machine_laws.proofs.DoingFits.{doing_fits}
 use Rattle.machine_laws.proofs.Parts.{struct_or_none}
+use Rattle.rl_defs.specs.Valid.{Valid, AreValidTables}
 
-module _ (L : LoadRows) (s : State) (e : Entry) (made : State) (plans : Plans L) (tables : HasTables L.tables) (laid : Laid L s) (owned : Owned L (ledger_of L s)) (placed : Placed L (ledger_of L s)) (fits : Fitting L s) (r : RowOf L s e made) (owned' : Owned L (ledger_of L (sweep_state made))) where
+module _ (L : LoadRows) (s : State) (e : Entry) (made : State) (plans : Valid L) (tables : AreValidTables L.tables) (laid : Laid L s) (owned : Owned L (ledger_of L s)) (placed : Placed L (ledger_of L s)) (fits : Fitting L s) (r : RowOf L s e made) (owned' : Owned L (ledger_of L (sweep_state made))) where
   abbrev z : State
   z = sweep_state made
 
@@ -64,7 +64,7 @@ module _ (L : LoadRows) (s : State) (e : Entry) (made : State) (plans : Plans L)
         (one_unlent (actor laid ready h.does).lent v (hung_unlent L s laid owned t (actor laid ready h.does) (Rattle.machine_laws.proofs.FrameRows.doing laid ready h.does).on_top v o k (unhang_seat L s made t plans tables laid owned fits ready o k v h))) (λ at regs is q there. types_kept old q there)
 
 -- after a `new` of a frame
-module _ (L : LoadRows) (s : State) (t : ℕ) (w : Owner) (o ty : ℕ) (values : List ℕ) (made : State) (plans : Plans L) (tables : HasTables L.tables) (laid : Laid L s) (owned : Owned L (ledger_of L s)) (placed : Placed L (ledger_of L s)) (fits : Fitting L s) (r : RowOf L s (entry.New t w o ty values) made)
+module _ (L : LoadRows) (s : State) (t : ℕ) (w : Owner) (o ty : ℕ) (values : List ℕ) (made : State) (plans : Valid L) (tables : AreValidTables L.tables) (laid : Laid L s) (owned : Owned L (ledger_of L s)) (placed : Placed L (ledger_of L s)) (fits : Fitting L s) (r : RowOf L s (entry.New t w o ty values) made)
     (owned' : Owned L (ledger_of L (sweep_state made))) (ready : is_undone (row s.threads t) ≡ true) where
   -- the new object is of its struct
   new_types : (q : ℕ) → IsIn (sweep_state made) q → (types_of L (sweep_state made)).struct_of q ≡ (types_with L s o ty).struct_of q

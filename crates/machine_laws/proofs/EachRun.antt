@@ -8,7 +8,6 @@ use Rattle.machine_defs.specs.Entries.{thread_of}
 use Rattle.machine_defs.specs.Runs.{Run}
 use Rattle.machine_defs.specs.History.{turns_of}
 use Rattle.machine_defs.specs.Sound.{ShadowsStand}
-use Rattle.machine_laws.specs.Plans.{Plans, HasTables}
 use Rattle.machine_laws.specs.Fitting.{Fitting}
 use Rattle.machine_laws.specs.AtCall.{AtCall}
 use Rattle.machine_laws.proofs.PlansOf.{plan_of}
@@ -25,6 +24,7 @@ use Rattle.machine_laws.proofs.HeldKept.{FewIn, held_row, held_start}
 use Rattle.machine_laws.proofs.ShadowRows.{shadows_stand, shadows_start}
 use Rattle.machine_laws.proofs.CallSteps.{not_waiting}
 use Rattle.machine_laws.proofs.Holds.{Holds, Keeps, holds_led}
+use Rattle.rl_defs.specs.Valid.{Valid, AreValidTables}
 
 -- everything fits after each row
 fitting_kept : (L : LoadRows) → Keeps L (Fitting L)
@@ -60,7 +60,7 @@ no_frames_first (x ∷ xs) (suc zero) = refl
 no_frames_first (x ∷ xs) (suc (suc t)) = no_frames_first xs (suc t)
 
 -- it holds at the start
-pub holds_first : (L : LoadRows) → Plans L → Holds L [] (start L)
+pub holds_first : (L : LoadRows) → Valid L → Holds L [] (start L)
 holds_first L plans = record {
   laid = start_laid L;
   run = refl;
@@ -72,5 +72,5 @@ holds_first L plans = record {
 }
 
 -- What holds of every state of every run.
-pub holds_run : (L : LoadRows) (plans : Plans L) (tables : HasTables L.tables) (H : List Entry) (s : State) → Run L H s → Holds L (turns_of H) s
+pub holds_run : (L : LoadRows) (plans : Valid L) (tables : AreValidTables L.tables) (H : List Entry) (s : State) → Run L H s → Holds L (turns_of H) s
 holds_run L plans tables H s run = holds_led L plans tables (plan_of L plans) (fitting_kept L) (at_kept L) (few_kept L) (shadows_kept L) (held_kept L) (holds_first L plans) H s run

@@ -37,7 +37,6 @@ use Rattle.machine_laws.specs.LedgerOf.{frame_entry, ledger_of}
 use Rattle.machine_laws.specs.LedgerSound.{Owned}
 use Rattle.machine_laws.specs.LedgerRows.{callee, Row}
 use Rattle.machine_laws.specs.Shape.{Laid}
-use Rattle.machine_laws.specs.Plans.{Plans, HasTables}
 use Rattle.machine_laws.specs.Fitting.{CallFits, CallsFit, Fitting}
 use Rattle.machine_laws.proofs.Objects.{rises_map}
 use Rattle.machine_laws.proofs.Rows.{row_set_same, row_within}
@@ -56,6 +55,7 @@ use Rattle.machine_laws.proofs.WaitingAnswers.{popped_stack}
 use Rattle.machine_laws.proofs.ReturnSteps.{returns_well, own_unlent, ClientGets, PoppedTo, gets}
 use Rattle.machine_laws.proofs.CodeDoing.{load_there}
 use Rattle.machine_laws.proofs.Counts.{has_counted}
+use Rattle.rl_defs.specs.Valid.{Valid, AreValidTables}
 
 -- the thread of a client that isn't done
 pub thread_there : (s : State) (t : ℕ) → is_undone (row s.threads t) ≡ true → (thread : Thread) × (row s.threads t ≡ Some thread)
@@ -109,7 +109,7 @@ moves_nothing types (kind.Cap t ∷ kinds) (arg.Moved o ∷ args) none stand = a
 moves_nothing types [] (a ∷ args) none stand = absurd cc
 moves_nothing types (k ∷ kinds) [] none stand = absurd cc
 
-module _ (L : LoadRows) (s : State) (plans : Plans L) (tables : HasTables L.tables) (laid : Laid L s) (owned : Owned L (ledger_of L s)) (fits : Fitting L s) where
+module _ (L : LoadRows) (s : State) (plans : Valid L) (tables : AreValidTables L.tables) (laid : Laid L s) (owned : Owned L (ledger_of L s)) (fits : Fitting L s) where
   -- what the call of a top frame is of
   pub top_call : (t : ℕ) (f : StackFrame) → top (stack s t) ≡ Some f → CallFits L s f
   top_call t f on_top = (calls_back L s (below_top (stack s t)) (f ∷ []) (subst (CallsFit L s) (top_splits (stack s t) f on_top) (fits.calls t))).0

@@ -25,7 +25,6 @@ use Rattle.machine_defs.specs.Objects.{fresh_object}
 use Rattle.machine_defs.specs.Wants.{by_body}
 use Rattle.machine_defs.specs.ObjectRows.{Gives, Makes}
 use Rattle.machine_defs.specs.Steps.{Row}
-use Rattle.machine_laws.specs.Plans.{Plans, HasTables}
 use Rattle.machine_laws.specs.Shape.{Laid}
 use Rattle.machine_laws.specs.Fitting.{Fitting}
 use Rattle.machine_laws.proofs.Acting.{ActsAs, acts_as, commands_as}
@@ -33,6 +32,7 @@ use Rattle.machine_laws.proofs.CodeDoing.{code_does}
 use Rattle.machine_laws.proofs.Moves.{IsNew, Moves, row_moves}
 use Rattle.machine_laws.proofs.SoundKinds.{Few}
 use Rattle.machine_laws.proofs.Parts.{is_bound}
+use Rattle.rl_defs.specs.Valid.{Valid, AreValidTables}
 
 abbrev NoMore : State → State → Type 0
 NoMore s z = length z.objects ≤ length s.objects
@@ -99,7 +99,7 @@ native_room L s f (suc fuel) held (action.New of) ty rest frame e = elim (cases_
 ]
 native_room L s f (suc fuel) held other ty rest frame e = absurd cc
 
-module _ (L : LoadRows) (s : State) (plans : Plans L) (tables : HasTables L.tables) (laid : Laid L s) (fits : Fitting L s) where
+module _ (L : LoadRows) (s : State) (plans : Valid L) (tables : AreValidTables L.tables) (laid : Laid L s) (fits : Fitting L s) where
   frame_room : (t ty rest : ℕ) (frame : StackFrame) → ActsAs L s t (action.New ty) rest frame → length s.objects < 65536
   frame_room t ty rest frame doing = go doing.f.body refl
     where

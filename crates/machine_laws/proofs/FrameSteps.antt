@@ -32,7 +32,6 @@ use Rattle.machine_laws.specs.LedgerOf.{ledger_of}
 use Rattle.machine_laws.specs.LedgerSound.{Owned}
 use Rattle.machine_laws.specs.LedgerRows.{Row}
 use Rattle.machine_laws.specs.Shape.{Laid}
-use Rattle.machine_laws.specs.Plans.{Plans, HasTables}
 use Rattle.machine_laws.specs.Fitting.{Fitting}
 use Rattle.machine_laws.proofs.Objects.{found_below}
 use Rattle.machine_laws.proofs.Instances.{loads_kept}
@@ -45,6 +44,7 @@ use Rattle.machine_laws.proofs.OwnFits.{FitsAct}
 use Rattle.machine_laws.proofs.OwnAnswers.{Unlent, one_more}
 use Rattle.machine_laws.proofs.OwnDoing.{IsDone, CodeAnswer, DoesOwn, does_own, acting_code}
 use Rattle.machine_laws.proofs.Unlent.{next_unlent, hung_unlent, slot_unlent, registers_there}
+use Rattle.rl_defs.specs.Valid.{Valid, AreValidTables}
 
 -- an answer that brings nothing fits whatever the instruction does
 pub went_fits : (types : Typing) (d : Domain) (n : ℕ) (sight : Sight) (live : ℕ) (kinds : Kinds) (i : Instr) (act : Action) → IsDone act answer.Went → FitsAct types d n sight live kinds i act → FitsAnswer types d kinds i answer.Went
@@ -70,7 +70,7 @@ one_unlent lent o out p some = elim (cases_Bool (o == p)) [
 abbrev pub types_with : LoadRows → State → ℕ → ℕ → Typing
 types_with L s o ty = record { struct_of = λ q. cond (q == o) ty ((types_of L s).struct_of q); trait_of = (types_of L s).trait_of }
 
-module _ (L : LoadRows) (s z : State) (t : ℕ) (plans : Plans L) (tables : HasTables L.tables) (laid : Laid L s) (owned : Owned L (ledger_of L s)) (fits : Fitting L s) (ready : is_undone (row s.threads t) ≡ true) where
+module _ (L : LoadRows) (s z : State) (t : ℕ) (plans : Valid L) (tables : AreValidTables L.tables) (laid : Laid L s) (owned : Owned L (ledger_of L s)) (fits : Fitting L s) (ready : is_undone (row s.threads t) ≡ true) where
   -- an action that is answered by `Went`
   module _ {i : ℕ} {act : Action} {change : State → State} (d : Does L s t i act answer.Went change z) (done : IsDone act answer.Went) (load' : instance_load z (actor laid ready d).instance ≡ instance_load s (actor laid ready d).instance) where
     abbrev pub went_answer : (at : ℕ) (regs : Registers) → (is : (actor laid ready d).body ≡ body.Code at regs)

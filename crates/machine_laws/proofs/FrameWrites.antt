@@ -31,7 +31,6 @@ use Rattle.rl_defs.specs.Widths.{numbers_suit}
 use Rattle.machine_defs.specs.Wants.{by_body}
 use Rattle.rl_defs.proofs.ValidFacts.{domain_tables}
 use Rattle.machine_laws.specs.Shape.{Laid}
-use Rattle.machine_laws.specs.Plans.{Plans, HasTables}
 use Rattle.machine_laws.specs.Fitting.{CodeRuns, BodyFits, Fitting}
 use Rattle.machine_laws.proofs.Acting.{ActsAs}
 use Rattle.machine_laws.proofs.Retyping.{kinds_by_struct}
@@ -41,6 +40,7 @@ use Rattle.machine_laws.proofs.OwnFits.{FitsAct, act_fits}
 use Rattle.machine_laws.proofs.OwnWrites.{WriteFits, act_writes}
 use Rattle.machine_laws.proofs.OwnDoing.{native_kept}
 use Rattle.machine_laws.proofs.CodeDoing.{NotTrap, settles_so, keeps_rules, body_fits}
+use Rattle.rl_defs.specs.Valid.{Valid, AreValidTables}
 
 -- what an action of a frame of instance i puts somewhere fits there
 abbrev pub PutsFit : LoadRows → State → ℕ → Action → Type 0
@@ -66,7 +66,7 @@ block_within L k b is = elim (cases_Bool (k == L.device_load)) [
   | inr e ↦ absurd (let h : nat_lt b 0 ≡ true = rw e at is in let lt = ltb-true b 0 h in omega (Rattle.std.proofs.Common.arith, lt))
 ]
 
-module _ (L : LoadRows) (s : State) (plans : Plans L) (tables : HasTables L.tables) (laid : Laid L s) (fits : Fitting L s) (t : ℕ) (act : Action) (rest : ℕ) (frame : StackFrame) (doing : ActsAs L s t act rest frame) (no_trap : NotTrap act) where
+module _ (L : LoadRows) (s : State) (plans : Valid L) (tables : AreValidTables L.tables) (laid : Laid L s) (fits : Fitting L s) (t : ℕ) (act : Action) (rest : ℕ) (frame : StackFrame) (doing : ActsAs L s t act rest frame) (no_trap : NotTrap act) where
   abbrev d : Domain
   d = domain_of_instance L s doing.f.instance
 

@@ -42,7 +42,6 @@ use Rattle.machine_defs.specs.Steps.{Row}
 use Rattle.machine_laws.specs.LedgerOf.{ledger_of}
 use Rattle.machine_laws.specs.LedgerSound.{Owned}
 use Rattle.machine_laws.specs.Shape.{Laid}
-use Rattle.machine_laws.specs.Plans.{Plans, HasTables}
 use Rattle.machine_laws.specs.Fitting.{Fitting}
 use Rattle.machine_laws.specs.AtCall.{AtCall}
 use Rattle.machine_laws.proofs.Stacks.{top_splits}
@@ -57,13 +56,14 @@ use Rattle.machine_laws.proofs.Turning.{Turned, turned_start, turned_thread, tur
 use Rattle.machine_laws.proofs.AtCalls.{lowest_then, lowest_top, lowest_popped, stands_at}
 use Rattle.machine_laws.proofs.Renaming.{renamed_same, renamed_then, renamed_bound, renamed_unbound}
 use Rattle.machine_laws.proofs.Going.{Goes, renamed_command, goes_alone, goes_still, goes_does, goes_command, goes_failed, paid}
+use Rattle.rl_defs.specs.Valid.{Valid, AreValidTables}
 
 -- the types after an entry, of the objects that were there and the one that it makes
 abbrev pub types_behind : LoadRows → State → Entry → Typing
 types_behind L s (entry.New t w o ty values) = types_with L s o ty
 types_behind L s e = types_of L s
 
-module _ (L : LoadRows) (s : State) (plans : Plans L) (tables : HasTables L.tables) (laid : Laid L s) (owned : Owned L (ledger_of L s)) (fits : Fitting L s) (at : (u : ℕ) → AtCall L s u) where
+module _ (L : LoadRows) (s : State) (plans : Valid L) (tables : AreValidTables L.tables) (laid : Laid L s) (owned : Owned L (ledger_of L s)) (fits : Fitting L s) (at : (u : ℕ) → AtCall L s u) where
   start : (t : ℕ) (old : Thread) → row s.threads t ≡ Some old → Turned s s t (stack s t) old
   start t old of = turned_start L s t old laid of
 

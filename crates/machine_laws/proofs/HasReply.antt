@@ -22,7 +22,7 @@ use Rattle.machine_defs.specs.Frames.{with_top, with_body, frame_of, code_at, an
 use Rattle.machine_defs.specs.Calling.{with_fuel}
 use Rattle.machine_defs.specs.ObjectRows.{Does}
 use Rattle.rl_defs.proofs.ValidFacts.{domain_tables, method_by_trait as trait_method}
-use Rattle.machine_laws.specs.Plans.{Plans}
+use Rattle.rl_defs.specs.Valid.{Valid}
 
 -- An answered frame: code goes on, and a native body may always give up next.
 abbrev pub given_body : LoadRows → State → StackFrame → Answer → FrameBody Action → StackFrame
@@ -48,7 +48,7 @@ has_reply L s t a thread of = by_top (top (stack s t))
     by_top (Some f) = by_live f (is_live s f.instance)
 
 -- the call of a method of a target has a frame to begin with, in whatever state
-pub has_beginning : (L : LoadRows) → Plans L → (c x i m : ℕ) (args : List Arg) (method : MethodRow) → is_target L x ≡ true → method_of L x m ≡ Some method → (f : StackFrame) × ((z : State) → Begins L z c x i m args f)
+pub has_beginning : (L : LoadRows) → Valid L → (c x i m : ℕ) (args : List Arg) (method : MethodRow) → is_target L x ≡ true → method_of L x m ≡ Some method → (f : StackFrame) × ((z : State) → Begins L z c x i m args f)
 has_beginning L plans c x i m args method target is = elim (cases_Bool (is_native d.lines)) [
   | inl native ↦ (frame_of c x i m args (body.Native (moved_of args) (action.Trap cause.Io)), λ z. record { is = refl; body = (native, refl, refl) })
   | inr code ↦ (frame_of c x i m args (body.Code (body_of_function d.lines method.name) (entry_registers args)), λ z. record { is = refl; body = (code, entry, refl) })

@@ -45,8 +45,6 @@ use Rattle.machine_defs.proofs.CodeSafe.{settles}
 use Rattle.machine_laws.specs.LedgerOf.{ledger_of}
 use Rattle.machine_laws.specs.LedgerSound.{Owned}
 use Rattle.machine_laws.specs.Shape.{Laid}
-use Rattle.machine_laws.specs.Plans.{Plans}
-use Rattle.machine_laws.specs.Plans.{HasTables}
 use Rattle.machine_laws.specs.Fitting.{BodyFits, CodeRuns, CallFits, CallsFit, StackFits, Fitting}
 use Rattle.machine_laws.proofs.Instances.{loads_kept}
 use Rattle.machine_laws.proofs.Rows.{row_set_same, row_within}
@@ -63,6 +61,7 @@ use Rattle.machine_laws.proofs.CallSteps.{called, not_waiting}
 use Rattle.machine_laws.proofs.StepRows.{ClientFacts}
 use Rattle.machine_laws.proofs.Parts.{wish_in, by_thread}
 use Rattle.machine_laws.proofs.HasReply.{has_reply, has_beginning, has_done}
+use Rattle.rl_defs.specs.Valid.{Valid, AreValidTables}
 
 -- an entry of the thread whose row holds
 abbrev pub HasRow : LoadRows → State → ℕ → Type 0
@@ -156,7 +155,7 @@ code_ready L s t thread of f n kinds i (action.Hang o k v) fits named = fits.0
 code_ready L s t thread of f n kinds i (action.Unhang o k) fits named = (fits.object, fits.there)
 code_ready L s t thread of f n kinds i act fits named = tt
 
-module _ (L : LoadRows) (s : State) (plans : Plans L) (tables : HasTables L.tables) (laid : Laid L s) (owned : Owned L (ledger_of L s)) (fits : Fitting L s) (clients : ClientFacts L s) (t : ℕ) (ready : is_undone (row s.threads t) ≡ true) (thread : Thread) (of : row s.threads t ≡ Some thread) where
+module _ (L : LoadRows) (s : State) (plans : Valid L) (tables : AreValidTables L.tables) (laid : Laid L s) (owned : Owned L (ledger_of L s)) (fits : Fitting L s) (clients : ClientFacts L s) (t : ℕ) (ready : is_undone (row s.threads t) ≡ true) (thread : Thread) (of : row s.threads t ≡ Some thread) where
   within : (0 < t) × (t ≤ length s.threads)
   within = row_within s.threads t thread of
 
@@ -333,7 +332,7 @@ module _ (L : LoadRows) (s : State) (plans : Plans L) (tables : HasTables L.tabl
       ]
 
 -- an enabled thread has a step
-pub has_step : (L : LoadRows) (s : State) → Plans L → HasTables L.tables → Laid L s → Owned L (ledger_of L s) → Fitting L s → ClientFacts L s → (t : ℕ) → is_enabled L s t ≡ true → (turn : Turn) × (z : State) × Step L s turn z × (thread_of turn.entry ≡ t)
+pub has_step : (L : LoadRows) (s : State) → Valid L → AreValidTables L.tables → Laid L s → Owned L (ledger_of L s) → Fitting L s → ClientFacts L s → (t : ℕ) → is_enabled L s t ≡ true → (turn : Turn) × (z : State) × Step L s turn z × (thread_of turn.entry ≡ t)
 has_step L s plans tables laid owned fits clients t enabled = go (row s.threads t) refl
   where
     ready : is_undone (row s.threads t) ≡ true

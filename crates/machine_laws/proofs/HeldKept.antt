@@ -44,8 +44,6 @@ use Rattle.rl_defs.proofs.ValidFacts.{method_small}
 use Rattle.machine_laws.specs.LedgerOf.{ledger_of}
 use Rattle.machine_laws.specs.LedgerSound.{Owned}
 use Rattle.machine_laws.specs.Shape.{Laid}
-use Rattle.machine_laws.specs.Plans.{Plans}
-use Rattle.machine_laws.specs.Plans.{HasTables}
 use Rattle.rl_defs.proofs.ValidFacts.{method_small}
 use Rattle.machine_laws.specs.Fitting.{BodyFits, CallFits, CallsFit, Fitting}
 use Rattle.machine_laws.proofs.Rows.{row_set_same}
@@ -62,6 +60,7 @@ use Rattle.machine_laws.proofs.CallSteps.{Called, called, not_waiting}
 use Rattle.machine_laws.proofs.ReturnSteps.{returns_well}
 use Rattle.machine_laws.proofs.EndSteps.{ready_within}
 use Rattle.machine_laws.proofs.StepRows.{ClientFacts}
+use Rattle.rl_defs.specs.Valid.{Valid, AreValidTables}
 
 -- a body holds few objects, besides n that are to come
 abbrev pub HoldsFew : FrameBody Action → ℕ → Type 0
@@ -207,7 +206,7 @@ done_few L s f held act a can once few = few
 same_call : (f g : StackFrame) → g ≡ with_body f g.body → (g.target ≡ f.target) × (g.method ≡ f.method)
 same_call f g is = (ap (λ (h : StackFrame). h.target) is, ap (λ (h : StackFrame). h.method) is)
 
-module _ (L : LoadRows) (s : State) (plans : Plans L) (tables : HasTables L.tables) (laid : Laid L s) (fits : Fitting L s) (few : FewIn L s) where
+module _ (L : LoadRows) (s : State) (plans : Valid L) (tables : AreValidTables L.tables) (laid : Laid L s) (fits : Fitting L s) (few : FewIn L s) where
   -- a frame that does something
   does_body : (t i : ℕ) (act : Action) (a : Answer) (change : State → State) (made : State) → IsAtOnce a → (d : Does L s t i act a change made) → HoldsFew d.after.body 0
   does_body t i act a change made once d = go doing.f.body refl
@@ -278,7 +277,7 @@ module _ (L : LoadRows) (s : State) (plans : Plans L) (tables : HasTables L.tabl
           let few' = (method_small L plans x m method row').params in
           omega (arith, e, le, many, few')
 
-module _ (L : LoadRows) (s : State) (plans : Plans L) (tables : HasTables L.tables) (laid : Laid L s) (owned : Owned L (ledger_of L s)) (fits : Fitting L s) (clients : ClientFacts L s) (few : FewIn L s) where
+module _ (L : LoadRows) (s : State) (plans : Valid L) (tables : AreValidTables L.tables) (laid : Laid L s) (owned : Owned L (ledger_of L s)) (fits : Fitting L s) (clients : ClientFacts L s) (few : FewIn L s) where
   -- the caller that waits has room for what the call may bring
   caller_few : (t : ℕ) (ready : is_undone (row s.threads t) ≡ true) (w : Wish) (wished : FrameWish L s t w) (g : StackFrame) → g.target ≡ w.target → g.method ≡ w.method → HoldsFew (waits L s t plans tables laid owned fits ready w wished).body (brought_by L (g ∷ []))
   caller_few t ready w wished g target method = go f.body refl

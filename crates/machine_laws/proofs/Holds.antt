@@ -15,7 +15,6 @@ use Rattle.machine_laws.specs.LedgerOf.{ledger_of}
 use Rattle.machine_laws.specs.LedgerRows.{LedgerStep}
 use Rattle.machine_laws.specs.LedgerSound.{Owned, Placed, IsPlan}
 use Rattle.machine_laws.specs.Shape.{Laid}
-use Rattle.machine_laws.specs.Plans.{Plans, HasTables}
 use Rattle.machine_laws.specs.Fitting.{Fitting}
 use Rattle.machine_laws.specs.AtCall.{AtCall}
 use Rattle.machine_laws.proofs.HeldKept.{FewIn}
@@ -25,6 +24,7 @@ use Rattle.machine_laws.proofs.StepRows.{ClientFacts, step_ledger}
 use Rattle.machine_laws.proofs.ScriptSteps.{client_facts}
 use Rattle.machine_laws.proofs.KeptSteps.{Kept, kept_step}
 use Rattle.machine_laws.proofs.LedgerRuns.{LedgerRun, ledger_kept}
+use Rattle.rl_defs.specs.Valid.{Valid, AreValidTables}
 
 -- All that the laws rest on: the layout of the lists, the run of the ledger, and what fits.
 pub record Holds (L : LoadRows) (us : List Turn) (s : State) : Type 0 where
@@ -38,8 +38,8 @@ pub record Holds (L : LoadRows) (us : List Turn) (s : State) : Type 0 where
 
 -- a row from a state of which all that holds, and the ledger after it
 pub record From (L : LoadRows) (s : State) (e : Entry) (made : State) : Type 0 where
-  pub plans : Plans L
-  pub tables : HasTables L.tables
+  pub plans : Valid L
+  pub tables : AreValidTables L.tables
   pub laid : Laid L s
   pub owned : Owned L (ledger_of L s)
   pub placed : Placed L (ledger_of L s)
@@ -56,7 +56,7 @@ pub record From (L : LoadRows) (s : State) (e : Entry) (made : State) : Type 0 w
 abbrev pub Keeps : LoadRows → (State → Type 0) → Type 0
 Keeps L P = (s : State) (e : Entry) (made : State) → From L s e made → P (sweep_state made)
 
-module _ (L : LoadRows) (plans : Plans L) (tables : HasTables L.tables) (plan : IsPlan L) (fitting_kept : Keeps L (Fitting L)) (at_kept : Keeps L (λ s. (t : ℕ) → AtCall L s t)) (few_kept : Keeps L (λ s. length s.objects ≤ 65536)) (shadows_kept : Keeps L (ShadowsStand L)) (held_kept : Keeps L (FewIn L)) where
+module _ (L : LoadRows) (plans : Valid L) (tables : AreValidTables L.tables) (plan : IsPlan L) (fitting_kept : Keeps L (Fitting L)) (at_kept : Keeps L (λ s. (t : ℕ) → AtCall L s t)) (few_kept : Keeps L (λ s. length s.objects ≤ 65536)) (shadows_kept : Keeps L (ShadowsStand L)) (held_kept : Keeps L (FewIn L)) where
   pub holds_step : (us : List Turn) (s : State) (u : Turn) (z : State) → Holds L us s → Step L s u z → Holds L (u ∷ us) z
   holds_step us s u z h step =
       let kept = (ledger_kept L us (ledger_of L s) plan h.run).0 in

@@ -12,11 +12,10 @@ use Rattle.machine_defs.specs.Calling.{with_fuel}
 use Rattle.machine_defs.specs.Objects.{kinds_of, with_placement}
 use Rattle.machine_defs.specs.Seen.{types_of}
 use Rattle.machine_defs.specs.Steps.{Row}
-use Rattle.rl_defs.specs.Valid.{Valid}
+use Rattle.rl_defs.specs.Valid.{Valid, AreValidTables}
 use Rattle.machine_laws.specs.LedgerOf.{seat_of, ledger_of}
 use Rattle.machine_laws.specs.LedgerSound.{Owned}
 use Rattle.machine_laws.specs.Shape.{Laid}
-use Rattle.machine_laws.specs.Plans.{Plans, HasTables}
 use Rattle.machine_laws.specs.Fitting.{ObjectFits, Fitting}
 use Rattle.machine_laws.proofs.Objects.{found_below}
 use Rattle.machine_laws.proofs.Seats.{seats, IsIn}
@@ -36,7 +35,7 @@ kinds_stay L P s z p stays there =
     let was = stays p there.0 there.1 in
     ap (kinds_of L) there.1 ∙ ap (cells_of L.tables) (sym was.ty) ∙ sym (ap (kinds_of L) was.here)
 
-module _ (L : LoadRows) (s : State) (plans : Plans L) (tables : HasTables L.tables) (scripts : Valid L) (laid : Laid L s) (fits : Fitting L s) where
+module _ (L : LoadRows) (s : State) (plans : Valid L) (tables : AreValidTables L.tables) (scripts : Valid L) (laid : Laid L s) (fits : Fitting L s) where
   -- an object that was there, and hung so
   hung_before : (z : State) (q p k : ℕ) (x y : Object) → object_of s q ≡ Some x → x.ty ≡ y.ty → x.placement ≡ Hung p k → kinds_of L (object_of z p) ≡ kinds_of L (object_of s p) → slice_get (kinds_of L (object_of z p)) k ≡ Some (kind.Own y.ty)
   hung_before z q p k x y here ty hangs same = ap (λ ks. slice_get ks k) same ∙ (fits.objects q x here).hung p k hangs ∙ ap (λ t. Some (kind.Own t)) ty
@@ -86,7 +85,7 @@ module _ (L : LoadRows) (s : State) (plans : Plans L) (tables : HasTables L.tabl
   hung_row e z makes = hung_same e z (λ new. new) (λ hangs. hangs) makes
 
 -- Each object that a step leaves fits.
-pub objects_fit : (L : LoadRows) (s : State) (e : Entry) (made : State) → Plans L → HasTables L.tables → Valid L → Laid L s → Owned L (ledger_of L (sweep made)) → Fitting L s → Row L s e made
+pub objects_fit : (L : LoadRows) (s : State) (e : Entry) (made : State) → Valid L → AreValidTables L.tables → Valid L → Laid L s → Owned L (ledger_of L (sweep made)) → Fitting L s → Row L s e made
     → (o : ℕ) (x : Object) → object_of (sweep made) o ≡ Some x → ObjectFits L (sweep made) x
 objects_fit L s e made plans tables scripts laid owned fits makes o x is =
     let stays : Stays Unchanged made (sweep made) = stays_sweep Unchanged (λ y. refl) L made (laid_row L s e made laid makes) in

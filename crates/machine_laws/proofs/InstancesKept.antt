@@ -13,11 +13,11 @@ use Rattle.machine_defs.specs.Loans.{sweep}
 use Rattle.rl_defs.specs.Rows.{domain_or_none, domain_of_load}
 use Rattle.machine_defs.specs.Seen.{with_instance}
 use Rattle.machine_defs.specs.Steps.{Row}
-use Rattle.machine_laws.specs.Plans.{Plans}
 use Rattle.machine_laws.specs.Fitting.{InstanceFits, Fitting}
 use Rattle.machine_laws.proofs.Rows.{row_within, row_set_same, row_set_other}
 use Rattle.machine_laws.proofs.Moves.{Moves, row_moves}
 use Rattle.machine_laws.proofs.Parts.{instance_for}
+use Rattle.rl_defs.specs.Valid.{Valid}
 
 -- each instance is of a load
 abbrev pub AllInstances : LoadRows → List Instance → Type 0
@@ -116,5 +116,5 @@ instance_moves L e = record {
   reload = λ s x left fits. instances_grow L s.instances (instance_for L (load_of_target L x) (load_row L (load_of_target L x))) fits (fresh_fits L (load_of_target L x) (load_row L (load_of_target L x)) refl);
 }
 
-pub instances_fit : (L : LoadRows) (s : State) (e : Entry) (made : State) → Plans L → Fitting L s → Row L s e made → (i : ℕ) (x : Instance) → row (sweep made).instances i ≡ Some x → InstanceFits L x
+pub instances_fit : (L : LoadRows) (s : State) (e : Entry) (made : State) → Valid L → Fitting L s → Row L s e made → (i : ℕ) (x : Instance) → row (sweep made).instances i ≡ Some x → InstanceFits L x
 instances_fit L s e made plans fits makes i x is = row_moves L (InstancesStay L) e (instance_moves L e) s made makes fits.instances i x is

@@ -16,7 +16,6 @@ use Rattle.machine_defs.specs.Steps.{Row}
 use Rattle.machine_laws.specs.LedgerOf.{ledger_of}
 use Rattle.machine_laws.specs.LedgerSound.{Owned}
 use Rattle.machine_laws.specs.Shape.{Laid}
-use Rattle.machine_laws.specs.Plans.{Plans, HasTables}
 use Rattle.machine_laws.specs.Fitting.{NamesFit, Fitting}
 use Rattle.machine_laws.specs.AtCall.{AtCall}
 use Rattle.machine_laws.proofs.Objects.{found_below}
@@ -33,6 +32,7 @@ use Rattle.machine_laws.proofs.Renaming.{Renamed, names_renamed, renamed_same}
 use Rattle.machine_laws.proofs.Going.{Goes}
 use Rattle.machine_laws.proofs.GoingRows.{types_behind, row_goes}
 use Rattle.machine_laws.proofs.Parts.{struct_or_none}
+use Rattle.rl_defs.specs.Valid.{Valid, AreValidTables}
 
 module _ (L : LoadRows) (s : State) (laid : Laid L s) where
   -- objects that were there are of the same structs in the types after an entry
@@ -70,7 +70,7 @@ traits_behind : (L : LoadRows) (s : State) (e : Entry) (x : ℕ) → (types_behi
 traits_behind L s (entry.New t w o ty values) x = refl
 traits_behind L s e x = refl
 
-module _ (L : LoadRows) (s : State) (plans : Plans L) (tables : HasTables L.tables) (laid : Laid L s) (owned : Owned L (ledger_of L s)) (fits : Fitting L s) (at : (u : ℕ) → AtCall L s u)
+module _ (L : LoadRows) (s : State) (plans : Valid L) (tables : AreValidTables L.tables) (laid : Laid L s) (owned : Owned L (ledger_of L s)) (fits : Fitting L s) (at : (u : ℕ) → AtCall L s u)
     (e : Entry) (made : State) (ready : is_undone (row s.threads (thread_of e)) ≡ true) (makes : Row L s e made) where
   goes : Goes L s made (thread_of e) (types_behind L s e)
   goes = row_goes L s plans tables laid owned fits at e made ready makes

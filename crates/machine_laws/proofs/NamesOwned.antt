@@ -7,7 +7,7 @@ use Rattle.rl_defs.specs.declared.load.LoadRows.{LoadRows}
 use Rattle.machine_defs.specs.State.{State, Thread, Placement, Root, Hung, stack}
 use Rattle.rl_defs.specs.Rows.{row}
 use Rattle.machine_defs.specs.Loans.{count}
-use Rattle.machine_laws.specs.Ledger.{same_owner}
+use Rattle.machine_defs.specs.Report.{same_owner}
 use Rattle.machine_laws.specs.LedgerOf.{ledger_of}
 use Rattle.machine_laws.specs.LedgerSound.{own_in, is_of, Owned}
 use Rattle.machine_laws.specs.Shape.{Laid}

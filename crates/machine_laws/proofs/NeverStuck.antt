@@ -4,7 +4,8 @@ use Rattle.std.proofs.lemmas.Bool.{cases_Bool}
 use Rattle.machine_defs.specs.declared.values.Owner.TheVariants as owner
 use Rattle.rl_defs.specs.declared.load.LoadRows.{LoadRows}
 use Rattle.rl_defs.specs.Domains.{is_serial}
-use Rattle.machine_laws.specs.Ledger.{same_owner, LedgerFrame, Ledger}
+use Rattle.machine_defs.specs.Report.{same_owner}
+use Rattle.machine_laws.specs.Ledger.{LedgerFrame, Ledger}
 use Rattle.machine_laws.specs.LedgerRows.{enters, IsBelow}
 use Rattle.machine_laws.proofs.Owners.{same_is}
 use Rattle.machine_laws.proofs.Ranks.{is_entered, frame_entered}

@@ -23,10 +23,9 @@ use Rattle.machine_defs.specs.ObjectRows.{Does, Gives, ClientMakes, block, inste
 use Rattle.machine_defs.specs.Sound.{cells_fit}
 use Rattle.machine_defs.specs.Steps.{Row}
 use Rattle.rl_defs.specs.ValidScripts.{CommandFits}
-use Rattle.rl_defs.specs.Valid.{Valid}
+use Rattle.rl_defs.specs.Valid.{Valid, AreValidTables}
 use Rattle.rl_defs.proofs.ValidFacts.{command_fits}
 use Rattle.machine_laws.specs.Shape.{Laid}
-use Rattle.machine_laws.specs.Plans.{Plans, HasTables}
 use Rattle.machine_laws.specs.Fitting.{Fitting}
 use Rattle.machine_laws.proofs.Objects.{found, found_map, found_number, changed}
 use Rattle.machine_laws.proofs.FrameRows.{gone_on}
@@ -39,7 +38,7 @@ use Rattle.machine_laws.proofs.CellsFit.{fresh_cells, written_cells, block_cells
 use Rattle.machine_laws.proofs.FrameWrites.{PutsFit, puts_fit}
 
 -- what an action that is no trap puts somewhere fits there
-pub does_fit : {L : LoadRows} {s : State} {t i : ℕ} {act : Action} {a : Answer} {change : State → State} {z : State} → Plans L → HasTables L.tables → Laid L s → Fitting L s → NotTrap act → Does L s t i act a change z → PutsFit L s i act
+pub does_fit : {L : LoadRows} {s : State} {t i : ℕ} {act : Action} {a : Answer} {change : State → State} {z : State} → Valid L → AreValidTables L.tables → Laid L s → Fitting L s → NotTrap act → Does L s t i act a change z → PutsFit L s i act
 does_fit {L = L} {s = s} {t = t} {i = i} {act = act} plans tables laid fits no_trap d =
     let doing = acts_as L s t act d.fuel d.frame d.wants in
     let inside : doing.f.instance ≡ i = sym (ap (λ (g : StackFrame). g.instance) doing.same) ∙ sym d.inside in
@@ -108,7 +107,7 @@ values_suit L t p (command.Let name of given) ty values gives fits = rw (gives.0
 values_suit L t p (command.Text name of given) ty values gives fits = rw (gives.0, gives.1) fits.1
 values_suit L t p other ty values gives fits = absurd gives
 
-module _ (L : LoadRows) (s : State) (plans : Plans L) (tables : HasTables L.tables) (scripts : Valid L) (laid : Laid L s) (fits : Fitting L s) where
+module _ (L : LoadRows) (s : State) (plans : Valid L) (tables : AreValidTables L.tables) (scripts : Valid L) (laid : Laid L s) (fits : Fitting L s) where
   filled_before : (o : ℕ) (x : Object) → object_of s o ≡ Some x → IsFilled L x
   filled_before o x is = (fits.objects o x is).numbers
 

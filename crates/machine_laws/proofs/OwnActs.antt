@@ -41,7 +41,6 @@ use Rattle.machine_defs.proofs.CodeStands.{keeps_at}
 use Rattle.machine_defs.proofs.CodeAnswers.{gives_up, moved_given}
 use Rattle.machine_defs.proofs.CodeWidths.{length-kinds_at}
 use Rattle.rl_defs.proofs.ValidFacts.{hangs_in_none}
-use Rattle.machine_laws.specs.Plans.{HasTables}
 use Rattle.machine_laws.specs.Registers.{own, Parted, given_away, used, shown}
 use Rattle.machine_laws.proofs.OwnCounts.{weight, own_least, own_none, own_unlent}
 use Rattle.machine_laws.proofs.OwnMarks.{Marked, mark, marked_of, parted_of, spare_in, Owned as IsOwned, owned_in, owned_weight}
@@ -49,6 +48,7 @@ use Rattle.machine_laws.proofs.OwnRules.{keeps_own}
 use Rattle.machine_laws.proofs.OwnHeads.{none_own}
 use Rattle.machine_laws.proofs.OwnWork.{met_at}
 use Rattle.machine_laws.proofs.OwnGiving.{objects_of, moved_objects, result_objects, others_keep, marks_given, give_counts, moved_distinct, owning_here, owning_rest}
+use Rattle.rl_defs.specs.Valid.{AreValidTables}
 
 -- a return leaves nothing
 abbrev pub is_return : Action → Bool
@@ -74,7 +74,7 @@ PaysWhen lent old waiting o = Unit {0}
 
 -- what is known at an instruction
 record Knows (types : Typing) (loans : List ℕ) (d : Domain) (n : ℕ) (kinds : Kinds) (regs : Registers) (i : Instr) : Type 0 where
-  tables : HasTables d.tables
+  tables : AreValidTables d.tables
   fine : Fine types kinds regs
   marked : Marked loans kinds regs
   met : reads_are_met kinds i ≡ true
@@ -151,15 +151,15 @@ quiet lent regs act g u s n = record {
 }
 
 -- no object hangs in one of its own struct
-hangs_self : (tables : Tables) (s place : ℕ) (h : Option ℕ) → HasTables tables → hung_at tables (held.Own s) place ≡ h → is_some h ≡ true → suits_cell h (held.Own s) ≡ true → ⊥
+hangs_self : (tables : Tables) (s place : ℕ) (h : Option ℕ) → AreValidTables tables → hung_at tables (held.Own s) place ≡ h → is_some h ≡ true → suits_cell h (held.Own s) ≡ true → ⊥
 hangs_self tables s place None has e some suits = cc
 hangs_self tables s place (Some t) has e some suits = hangs_in_none tables has s place (e ∙ ap (λ x. Some x) (eqb-true t s suits))
 
-hang_kinds : (tables : Tables) (place : ℕ) (k w : RegKind) → HasTables tables → meets Owned k ≡ true → is_some (hung_at tables k place) ≡ true → suits_cell (hung_at tables k place) w ≡ true → k ≡ w → ⊥
+hang_kinds : (tables : Tables) (place : ℕ) (k w : RegKind) → AreValidTables tables → meets Owned k ≡ true → is_some (hung_at tables k place) ≡ true → suits_cell (hung_at tables k place) w ≡ true → k ≡ w → ⊥
 hang_kinds tables place (held.Own s) w has m some suits e = hangs_self tables s place (hung_at tables (held.Own s) place) has refl some (ap (suits_cell (hung_at tables (held.Own s) place)) e ∙ suits)
 hang_kinds tables place k w has m some suits e = cc
 
-hang_apart : (tables : Tables) (kinds : Kinds) (o v : Register) (place : ℕ) → HasTables tables → meets Owned (kind_in kinds o) ≡ true → is_some (hung_at tables (kind_in kinds o) place) ≡ true → suits_cell (hung_at tables (kind_in kinds o) place) (kind_in kinds v) ≡ true → is_among o (v ∷ []) ≡ false
+hang_apart : (tables : Tables) (kinds : Kinds) (o v : Register) (place : ℕ) → AreValidTables tables → meets Owned (kind_in kinds o) ≡ true → is_some (hung_at tables (kind_in kinds o) place) ≡ true → suits_cell (hung_at tables (kind_in kinds o) place) (kind_in kinds v) ≡ true → is_among o (v ∷ []) ≡ false
 hang_apart tables kinds o v place has m some suits =
     rw (ne_eqb v.number o.number (λ e. hang_kinds tables place (kind_in kinds o) (kind_in kinds v) has m some suits (ap (λ n. slice_index_or kinds n held.Empty) (sym e)))) refl
 
@@ -296,7 +296,7 @@ pays types lent d n kinds sight live regs (instr.Ret results) knows =
     })
 pays types lent d n kinds sight live regs i knows = tt
 
-knows_at : (d : Domain) (types : Typing) (lent : List ℕ) (s : Stand) (number : ℕ) (i : Instr) → KeepsRules d → HasTables d.tables → FitsStand types d s → Marked lent (kinds_at d s.at) s.regs → slice_get d.lines s.at ≡ Some (record { line = number; form = line.Code i }) → Knows types lent d s.at (kinds_at d s.at) s.regs i
+knows_at : (d : Domain) (types : Typing) (lent : List ℕ) (s : Stand) (number : ℕ) (i : Instr) → KeepsRules d → AreValidTables d.tables → FitsStand types d s → Marked lent (kinds_at d s.at) s.regs → slice_get d.lines s.at ≡ Some (record { line = number; form = line.Code i }) → Knows types lent d s.at (kinds_at d s.at) s.regs i
 knows_at d types lent s number i keeps tables stand marked here =
     let kept = keeps_at d s.at number (line.Code i) keeps here in
     let mine = keeps_own d s.at number (line.Code i) keeps here in
@@ -323,7 +323,7 @@ pub record ActsOwn (types : Typing) (lent : List ℕ) (d : Domain) (i : Instr) (
   pub parted : Parted lent (left (kinds_at d s.at) i) (waiting i s).regs
   pub pays : PaysAct lent s.regs (waiting i s).regs act
 
-pub acts_own : (d : Domain) (types : Typing) (lent : List ℕ) (sight : Sight) (live : ℕ) (i : Instr) (s : Stand) (act : Action) → KeepsRules d → HasTables d.tables → FitsStand types d s → Parted lent (kinds_at d s.at) s.regs → StandsAt d i s → work d sight live s ≡ Would act → ActsOwn types lent d i s act
+pub acts_own : (d : Domain) (types : Typing) (lent : List ℕ) (sight : Sight) (live : ℕ) (i : Instr) (s : Stand) (act : Action) → KeepsRules d → AreValidTables d.tables → FitsStand types d s → Parted lent (kinds_at d s.at) s.regs → StandsAt d i s → work d sight live s ≡ Would act → ActsOwn types lent d i s act
 acts_own d types lent sight live i s act keeps tables stand parted at is =
     let kinds = kinds_at d s.at in
     let marked = marked_of lent kinds s.regs parted in

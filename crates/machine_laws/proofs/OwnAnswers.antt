@@ -38,7 +38,6 @@ use Rattle.machine_defs.proofs.CodeRegisters.{and_left, and_right, Fine, set_fin
 use Rattle.machine_defs.proofs.CodeStands.{keeps_at}
 use Rattle.machine_defs.proofs.CodeAnswers.{waiting_answers_fit, gives_up, failed_label, moved_given, counts_match, behind_kinds as behind}
 use Rattle.machine_defs.proofs.CodeWidths.{length-kinds_at, length-leave_all}
-use Rattle.machine_laws.specs.Plans.{HasTables}
 use Rattle.machine_laws.proofs.OwnTables.{results_plain}
 use Rattle.machine_laws.specs.Registers.{own, Parted, is_lent_kind, received}
 use Rattle.machine_laws.proofs.OwnCounts.{weight, weight_of}
@@ -48,6 +47,7 @@ use Rattle.machine_laws.proofs.OwnHeads.{index_other, next_own, jumped_own}
 use Rattle.machine_laws.proofs.OwnWork.{met_at}
 use Rattle.machine_laws.proofs.OwnGiving.{marks_given}
 use Rattle.machine_laws.proofs.OwnActs.{waiting}
+use Rattle.rl_defs.specs.Valid.{AreValidTables}
 
 -- none of the objects is lent
 abbrev pub Unlent : List ℕ → List ℕ → Type 0
@@ -148,7 +148,7 @@ set_twice (v ∷ regs) (suc a) = ap (λ rest. v ∷ rest) (set_twice regs a)
 
 -- what is known where a frame waits at an instruction
 record Waits (types : Typing) (loans : List ℕ) (d : Domain) (kinds : Kinds) (i : Instr) (regs : Registers) : Type 0 where
-  tables : HasTables d.tables
+  tables : AreValidTables d.tables
   wide : length kinds ≡ 32
   fits : Fits types (left kinds i) regs
   marked : Marked loans (left kinds i) regs
@@ -162,7 +162,7 @@ stays_given : (types : Typing) (lent : List ℕ) (d : Domain) (kinds : Kinds) (i
 stays_given types lent d kinds i regs waits = keep_all types (moved i) (left kinds i) regs waits.fits (left_none (moved i) kinds (moved_given kinds i waits.met))
 
 -- no method that is called lends a result
-plain_results : (tables : Tables) (k : RegKind) (name : List ℕ) → HasTables tables → list_all (λ x. not (is_lent_kind x)) (results_of (method_called tables k name)) ≡ true
+plain_results : (tables : Tables) (k : RegKind) (name : List ℕ) → AreValidTables tables → list_all (λ x. not (is_lent_kind x)) (results_of (method_called tables k name)) ≡ true
 plain_results tables (held.Cap t) name has = results_plain tables has t name
 plain_results tables k name has = refl
 
@@ -204,7 +204,7 @@ gains types lent d kinds (instr.Call c method args results e label) (answer.Fail
     (failed_gains types lent d kinds c method args results e label failure regs waits)
 gains types lent d kinds i a regs waits fits unlent = absurd fits
 
-waits_at : (d : Domain) (types : Typing) (lent : List ℕ) (i : Instr) (s : Stand) → KeepsRules d → HasTables d.tables → FitsWaiting types d i s → Marked lent (left (kinds_at d s.at) i) s.regs → Waits types lent d (kinds_at d s.at) i s.regs
+waits_at : (d : Domain) (types : Typing) (lent : List ℕ) (i : Instr) (s : Stand) → KeepsRules d → AreValidTables d.tables → FitsWaiting types d i s → Marked lent (left (kinds_at d s.at) i) s.regs → Waits types lent d (kinds_at d s.at) i s.regs
 waits_at d types lent i s keeps tables waits marked =
     let kept = keeps_at d s.at waits.number (line.Code i) keeps waits.here in
     record {
@@ -253,7 +253,7 @@ stands_gains d types lent i (answer.Failed failure) s keeps waits knows answers 
     }
 
 -- an answer to a frame that waits
-pub waiting_gains : (d : Domain) (types : Typing) (lent : List ℕ) (i : Instr) (a : Answer) (s : Stand) → KeepsRules d → HasTables d.tables → FitsWaiting types d i s → Parted lent (left (kinds_at d s.at) i) s.regs → FitsAnswer types d (kinds_at d s.at) i a → Unlent lent (received a) → GainsOwn types lent d s.regs (received a) (after_answer d s i a)
+pub waiting_gains : (d : Domain) (types : Typing) (lent : List ℕ) (i : Instr) (a : Answer) (s : Stand) → KeepsRules d → AreValidTables d.tables → FitsWaiting types d i s → Parted lent (left (kinds_at d s.at) i) s.regs → FitsAnswer types d (kinds_at d s.at) i a → Unlent lent (received a) → GainsOwn types lent d s.regs (received a) (after_answer d s i a)
 waiting_gains d types lent i a s keeps tables waits parted fits unlent =
     let knows = waits_at d types lent i s keeps tables waits (marked_of lent (left (kinds_at d s.at) i) s.regs parted) in
     stands_gains d types lent i a s keeps waits knows fits (waiting_answers_fit d types i a s keeps waits fits)
@@ -285,7 +285,7 @@ same_answer types d (instr.Call c method args results e label) ans s keeps waits
 same_answer types d i ans s keeps waits fits = refl
 
 -- an answer to a frame that acts, where it gets it at once
-pub answer_gains : (d : Domain) (types : Typing) (lent : List ℕ) (i : Instr) (a : Answer) (s : Stand) → KeepsRules d → HasTables d.tables → StandsAt d i s → FitsStand types d s → Parted lent (kinds_at d s.at) s.regs → FitsAnswer types d (kinds_at d s.at) i a → Unlent lent (received a) → GainsOwn types lent d (waiting i s).regs (received a) (after_answer d s i a)
+pub answer_gains : (d : Domain) (types : Typing) (lent : List ℕ) (i : Instr) (a : Answer) (s : Stand) → KeepsRules d → AreValidTables d.tables → StandsAt d i s → FitsStand types d s → Parted lent (kinds_at d s.at) s.regs → FitsAnswer types d (kinds_at d s.at) i a → Unlent lent (received a) → GainsOwn types lent d (waiting i s).regs (received a) (after_answer d s i a)
 answer_gains d types lent i a s keeps tables at stand parted fits unlent =
     let waits = gives_up d types i s keeps at stand in
     let marked = marks_given lent (moved i) (kinds_at d s.at) s.regs (marked_of lent (kinds_at d s.at) s.regs parted) in

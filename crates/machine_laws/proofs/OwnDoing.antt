@@ -31,7 +31,6 @@ use Rattle.machine_laws.specs.LedgerOf.{frame_entry, ledger_of}
 use Rattle.machine_laws.specs.LedgerSound.{Owned}
 use Rattle.machine_laws.specs.LedgerRows.{Exchanged}
 use Rattle.machine_laws.specs.Shape.{Laid}
-use Rattle.machine_laws.specs.Plans.{Plans, HasTables}
 use Rattle.machine_laws.specs.Registers.{Retyped, own, given_away, used, shown, received}
 use Rattle.machine_laws.specs.Fitting.{BodyFits, Fitting}
 use Rattle.machine_laws.proofs.Tops.{under}
@@ -42,6 +41,7 @@ use Rattle.machine_laws.proofs.CodeDoing.{NotTrap, CodeDoes, body_fits, code_doe
 use Rattle.machine_laws.proofs.Doing.{CodeAfter, code_after}
 use Rattle.machine_laws.proofs.Counting.{count_append, taken}
 use Rattle.machine_laws.proofs.Counts.{has_counted}
+use Rattle.rl_defs.specs.Valid.{Valid, AreValidTables}
 
 -- the actions that are answered at once, with their answers
 abbrev pub IsDone : Action → Answer → Type 0
@@ -128,7 +128,7 @@ pub record CodeAnswer (L : LoadRows) (s : State) (f : StackFrame) (act : Action)
   pub re : Retyped (types_of L s) types c.at_rest.stand.regs
   pub fits : FitsAnswer types (domain_of_instance L s f.instance) (kinds_at (domain_of_instance L s f.instance) c.at_rest.stand.at) c.instr a
 
-module _ {L : LoadRows} {s : State} {t i : ℕ} {act : Action} {a : Answer} {change : State → State} {z : State} (plans : Plans L) (tables : HasTables L.tables) (laid : Laid L s) (owned : Owned L (ledger_of L s)) (fits : Fitting L s)
+module _ {L : LoadRows} {s : State} {t i : ℕ} {act : Action} {a : Answer} {change : State → State} {z : State} (plans : Valid L) (tables : AreValidTables L.tables) (laid : Laid L s) (owned : Owned L (ledger_of L s)) (fits : Fitting L s)
     (ready : is_undone (row s.threads t) ≡ true) (d : Does L s t i act a change z) (done : IsDone act a) (load' : instance_load z (actor laid ready d).instance ≡ instance_load s (actor laid ready d).instance) where
   -- the frame that acts, at its code
   abbrev pub acting_code : (at : ℕ) (regs : Registers) → (actor laid ready d).body ≡ body.Code at regs → CodeDoes L s (actor laid ready d) at (doing laid ready d).thread.fuel regs act d.fuel d.frame

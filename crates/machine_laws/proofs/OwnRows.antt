@@ -6,7 +6,8 @@ use Rattle.machine_defs.specs.declared.values.Owner.TheVariants as owner
 use Rattle.rl_defs.specs.declared.load.LoadRows.{LoadRows}
 use Rattle.machine_defs.specs.State.{Placement, Root, Hung, lives}
 use Rattle.machine_defs.specs.Loans.{count}
-use Rattle.machine_laws.specs.Ledger.{same_owner, LedgerFrame, Ledger, at, alive, loans}
+use Rattle.machine_defs.specs.Report.{same_owner}
+use Rattle.machine_laws.specs.Ledger.{LedgerFrame, Ledger, at, alive, loans}
 use Rattle.machine_laws.specs.LedgerRows.{Runs, Exchanged, remove}
 use Rattle.machine_laws.specs.LedgerSound.{slots_held, is_of, Covered, Owned}
 use Rattle.machine_laws.proofs.Counts.{one_here, none_there, has_cond}

@@ -6,7 +6,8 @@ use Rattle.machine_defs.specs.declared.values.Owner.TheVariants as owner
 use Rattle.rl_defs.specs.declared.load.LoadRows.{LoadRows}
 use Rattle.machine_defs.specs.State.{Placement, Root, Hung, lives}
 use Rattle.machine_defs.specs.Loans.{count}
-use Rattle.machine_laws.specs.Ledger.{same_owner, LedgerFrame, Ledger, alive, lent_in, loans}
+use Rattle.machine_defs.specs.Report.{same_owner}
+use Rattle.machine_laws.specs.Ledger.{LedgerFrame, Ledger, alive, lent_in, loans}
 use Rattle.machine_laws.specs.LedgerRows.{Runs}
 use Rattle.machine_laws.specs.LedgerSound.{own_in, held, is_of, Covered, Owned}
 use Rattle.machine_laws.proofs.Sums.{sum_least, sum_two, sum_some}

@@ -8,7 +8,8 @@ use Rattle.rl_defs.specs.declared.load.LoadRows.{LoadRows}
 use Rattle.machine_defs.specs.State.{Placement, Root, Hung, lives}
 use Rattle.machine_defs.specs.Loans.{count}
 use Rattle.machine_defs.specs.Arguments.{moved_of, lent_of}
-use Rattle.machine_laws.specs.Ledger.{same_owner, LedgerFrame, Ledger, at, alive, loans}
+use Rattle.machine_defs.specs.Report.{same_owner}
+use Rattle.machine_laws.specs.Ledger.{LedgerFrame, Ledger, at, alive, loans}
 use Rattle.machine_laws.specs.LedgerRows.{Runs, IsDead, Exchanged, give, callee, CallRow}
 use Rattle.machine_laws.specs.LedgerSound.{in_slots, own_in, slots_held, is_of, Covered, Owned}
 use Rattle.machine_laws.proofs.Counts.{has_cond}

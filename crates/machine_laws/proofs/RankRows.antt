@@ -6,7 +6,8 @@ use Rattle.machine_defs.specs.declared.entry.Entry.{Entry}
 use Rattle.machine_defs.specs.declared.entry.Entry.TheVariants as entry
 use Rattle.rl_defs.specs.declared.load.LoadRows.{LoadRows}
 use Rattle.rl_defs.specs.Domains.{load_of_target, is_serial}
-use Rattle.machine_laws.specs.Ledger.{same_owner, LedgerFrame, Ledger, at}
+use Rattle.machine_defs.specs.Report.{same_owner}
+use Rattle.machine_laws.specs.Ledger.{LedgerFrame, Ledger, at}
 use Rattle.machine_laws.specs.LedgerRows.{IsFree, callee, Row}
 use Rattle.machine_laws.specs.LedgerSound.{Placed}
 use Rattle.machine_laws.proofs.OneStack.{at_each}

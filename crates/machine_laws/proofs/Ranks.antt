@@ -4,7 +4,8 @@ use Rattle.std.proofs.lemmas.Bool.{cases_Bool, eq-eqb, ne_eqb}
 use Rattle.machine_defs.specs.declared.values.Owner.TheVariants as owner
 use Rattle.rl_defs.specs.declared.load.LoadRows.{LoadRows}
 use Rattle.rl_defs.specs.Domains.{load_of_target, is_serial}
-use Rattle.machine_laws.specs.Ledger.{same_owner, LedgerFrame, Ledger, at}
+use Rattle.machine_defs.specs.Report.{same_owner}
+use Rattle.machine_laws.specs.Ledger.{LedgerFrame, Ledger, at}
 use Rattle.machine_laws.specs.LedgerRows.{enters, IsBelow}
 use Rattle.machine_laws.specs.LedgerSound.{Grounded}
 use Rattle.machine_laws.proofs.Owners.{same_is}

@@ -37,7 +37,6 @@ use Rattle.machine_laws.specs.LedgerOf.{ledger_of}
 use Rattle.machine_laws.specs.LedgerSound.{Owned}
 use Rattle.machine_laws.specs.LedgerRows.{Row}
 use Rattle.machine_laws.specs.Shape.{Laid}
-use Rattle.machine_laws.specs.Plans.{Plans, HasTables}
 use Rattle.machine_laws.specs.Registers.{own}
 use Rattle.machine_laws.specs.Fitting.{Fitting}
 use Rattle.machine_laws.proofs.Rows.{at_same, row_set_same, row_within}
@@ -60,13 +59,14 @@ use Rattle.machine_laws.proofs.EndSteps.{loads_by, reply_instances}
 use Rattle.machine_laws.proofs.Charged.{charged_is, stack_charged, instances_charged, native_waits}
 use Rattle.machine_laws.proofs.LaidRows.{laid_same, laid_without}
 use Rattle.machine_laws.proofs.Parts.{stand_after}
+use Rattle.rl_defs.specs.Valid.{Valid, AreValidTables}
 
 -- a reply by which the caller's own objects stay as many
 pub record KeepsReplied (L : LoadRows) (s : State) (t : ℕ) (a : Answer) (z : State) : Type 0 where
   pub replied : Replied L s t a z
   pub same : (o : ℕ) → count o replied.own ≡ count o replied.g.own
 
-module _ (L : LoadRows) (s : State) (plans : Plans L) (tables : HasTables L.tables) (laid : Laid L s) (owned : Owned L (ledger_of L s)) (fits : Fitting L s) (t : ℕ) (ready : is_undone (row s.threads t) ≡ true) (w : Wish) where
+module _ (L : LoadRows) (s : State) (plans : Valid L) (tables : AreValidTables L.tables) (laid : Laid L s) (owned : Owned L (ledger_of L s)) (fits : Fitting L s) (t : ℕ) (ready : is_undone (row s.threads t) ≡ true) (w : Wish) where
   -- a frame that waits goes on from a failure with the objects that it has
   module _ (wished : FrameWish L s t w) (z : State) (after : StackFrame) (why : RpcCode) (load' : (i : ℕ) → instance_load z i ≡ instance_load s i) where
     abbrev pub f : StackFrame
@@ -174,7 +174,7 @@ module _ (L : LoadRows) (s : State) (plans : Plans L) (tables : HasTables L.tabl
             same = λ o. ap (λ ns. count o (filter_map Rattle.machine_defs.specs.Sound.object_held ns)) (bind_none (names_of (Rattle.std.specs.Prelude.slice_get (commands_of (row L.clients t)) answers.thread.place)) answers.thread.names);
           }
 
-module _ (L : LoadRows) (s : State) (plans : Plans L) (tables : HasTables L.tables) (laid : Laid L s) (owned : Owned L (ledger_of L s)) (fits : Fitting L s) (clients : ClientsCall L s) where
+module _ (L : LoadRows) (s : State) (plans : Valid L) (tables : AreValidTables L.tables) (laid : Laid L s) (owned : Owned L (ledger_of L s)) (fits : Fitting L s) (clients : ClientsCall L s) where
   pub refuses : (t c x m : ℕ) (why : RpcCode) (args : List Arg) (z : State) → is_undone (row s.threads t) ≡ true → Refuses L s t c why x m args z → Row L (ledger_of L s) (entry.Refuse t c why x m args) (ledger_of L z)
   refuses t c x m why args z ready r =
       let w : Wish = record { target = x; method = m; args = args; charged = r.charged } in

@@ -29,7 +29,6 @@ use Rattle.machine_defs.specs.CallRows.{Refuses, numbered}
 use Rattle.machine_laws.specs.LedgerOf.{ledger_of}
 use Rattle.machine_laws.specs.LedgerSound.{Owned, Placed}
 use Rattle.machine_laws.specs.Shape.{Laid}
-use Rattle.machine_laws.specs.Plans.{Plans, HasTables}
 use Rattle.machine_laws.specs.Fitting.{BodyFits, StackFits, Fitting}
 use Rattle.machine_laws.proofs.Rows.{row_set_same, row_set_other}
 use Rattle.machine_laws.proofs.Stacks.{top_splits, top_pushed, below_pushed}
@@ -45,8 +44,9 @@ use Rattle.machine_laws.proofs.DoneFits.{types_kept}
 use Rattle.machine_laws.proofs.RefuseSteps.{code_failed}
 use Rattle.machine_laws.proofs.EndSteps.{loads_by, reply_instances, ready_within}
 use Rattle.machine_laws.proofs.Charged.{stack_charged, instances_charged, others_charged, count_charged, native_waits}
+use Rattle.rl_defs.specs.Valid.{Valid, AreValidTables}
 
-module _ (L : LoadRows) (s : State) (plans : Plans L) (tables : HasTables L.tables) (laid : Laid L s) (owned : Owned L (ledger_of L s)) (placed : Placed L (ledger_of L s)) (fits : Fitting L s) (t c x m : ℕ) (why : RpcCode) (args : List Arg) (made : State)
+module _ (L : LoadRows) (s : State) (plans : Valid L) (tables : AreValidTables L.tables) (laid : Laid L s) (owned : Owned L (ledger_of L s)) (placed : Placed L (ledger_of L s)) (fits : Fitting L s) (t c x m : ℕ) (why : RpcCode) (args : List Arg) (made : State)
     (ready : is_undone (row s.threads t) ≡ true) (r : Refuses L s t c why x m args made) (owned' : Owned L (ledger_of L (sweep_state made))) where
   abbrev z : State
   z = sweep_state made

@@ -22,7 +22,6 @@ use Rattle.machine_defs.specs.Steps.{Row as RowOf}
 use Rattle.machine_laws.specs.LedgerOf.{ledger_of}
 use Rattle.machine_laws.specs.LedgerSound.{Owned, Placed}
 use Rattle.machine_laws.specs.Shape.{Laid}
-use Rattle.machine_laws.specs.Plans.{Plans, HasTables}
 use Rattle.machine_laws.specs.Registers.{received}
 use Rattle.machine_laws.specs.Fitting.{BodyFits, StackFits, Fitting}
 use Rattle.machine_laws.proofs.Rows.{row_set_same, row_set_other}
@@ -37,8 +36,9 @@ use Rattle.machine_laws.proofs.Agreeing.{stands, laid_z, all_fit, changed_fits}
 use Rattle.machine_laws.proofs.DoingFits.{code_on_top, native_on_top}
 use Rattle.machine_laws.proofs.DoneFits.{types_kept}
 use Rattle.machine_laws.proofs.WaitingAnswers.{IsReply, ReplySuits, code_replied}
+use Rattle.rl_defs.specs.Valid.{Valid, AreValidTables}
 
-module _ (L : LoadRows) (s : State) (e : Entry) (made : State) (plans : Plans L) (tables : HasTables L.tables) (laid : Laid L s) (owned : Owned L (ledger_of L s)) (placed : Placed L (ledger_of L s)) (fits : Fitting L s) (r : RowOf L s e made) (owned' : Owned L (ledger_of L (sweep_state made))) (old : IsNew e → ⊥)
+module _ (L : LoadRows) (s : State) (e : Entry) (made : State) (plans : Valid L) (tables : AreValidTables L.tables) (laid : Laid L s) (owned : Owned L (ledger_of L s)) (placed : Placed L (ledger_of L s)) (fits : Fitting L s) (r : RowOf L s e made) (owned' : Owned L (ledger_of L (sweep_state made))) (old : IsNew e → ⊥)
     (t : ℕ) (thread : Thread) (of : row s.threads t ≡ Some thread) (f : StackFrame) (on_top : top (stack s t) ≡ Some f) (s' : State) (stacks' : s'.stacks ≡ slice_set s.stacks (t - 1) (below_top (stack s t))) (instances' : s'.instances ≡ s.instances)
     (a : Answer) (reply : IsReply a) (method : MethodRow) (called : method_of L f.target f.method ≡ Some method) (suits : ReplySuits (types_of L s) method.results a) (unlent : (g : StackFrame) (below above : List StackFrame) → stack s t ≡ below ++ g ∷ above → (p : ℕ) → 0 < count p (received a) → has g.lent p ≡ false)
     (load' : (i : ℕ) → instance_load made i ≡ instance_load s i) (replies : Replies L s' t a made) where

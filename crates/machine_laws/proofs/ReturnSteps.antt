@@ -31,7 +31,6 @@ use Rattle.machine_laws.specs.LedgerOf.{frame_entry, names_held, ledger_of}
 use Rattle.machine_laws.specs.LedgerSound.{Owned}
 use Rattle.machine_laws.specs.LedgerRows.{Runs, Exchanged}
 use Rattle.machine_laws.specs.Shape.{Laid}
-use Rattle.machine_laws.specs.Plans.{Plans, HasTables}
 use Rattle.machine_laws.specs.Registers.{own, received}
 use Rattle.machine_laws.specs.Fitting.{BodyFits, CallFits, CallsFit, StackFits, Fitting}
 use Rattle.machine_laws.proofs.Stacks.{top_splits}
@@ -47,6 +46,7 @@ use Rattle.machine_laws.proofs.OwnDoing.{native_kept}
 use Rattle.machine_laws.proofs.WaitingAnswers.{IsReply, ReplySuits, replied_own}
 use Rattle.machine_laws.proofs.Sums.{sum_least}
 use Rattle.machine_laws.proofs.Counts.{has_counted}
+use Rattle.rl_defs.specs.Valid.{Valid, AreValidTables}
 
 ret_no_trap : (results : List Value) → NotTrap (action.Ret results)
 ret_no_trap results c e = cc
@@ -63,7 +63,7 @@ abbrev pub ClientGets : LoadRows → State → Type 0
 ClientGets L s = (t : ℕ) (f : StackFrame) (a : Answer) (method : MethodRow) (thread : Thread) → stack s t ≡ f ∷ [] → method_of L f.target f.method ≡ Some method → IsReply a → ReplySuits (types_of L s) method.results a
     → row s.threads t ≡ Some thread → Exchanged (names_held (Some thread)) [] (received a) (names_held (Some (after_command L t thread (results_in a))))
 
-module _ (L : LoadRows) (s : State) (plans : Plans L) (tables : HasTables L.tables) (laid : Laid L s) (owned : Owned L (ledger_of L s)) (fits : Fitting L s) where
+module _ (L : LoadRows) (s : State) (plans : Valid L) (tables : AreValidTables L.tables) (laid : Laid L s) (owned : Owned L (ledger_of L s)) (fits : Fitting L s) where
   pub returns_well : (t fuel : ℕ) (results : List Value) (frame : StackFrame) (doing : ActsAs L s t (action.Ret results) fuel frame) → ReturnsWell L s doing.f results
   returns_well t fuel results frame doing = go doing.f.body refl
     where
@@ -117,7 +117,7 @@ pub record Gets (L : LoadRows) (s s' : State) (t : ℕ) (a : Answer) (z : State)
   pub replied : Replied L s' t a z
   pub gains : alive (is_live s) replied.g.party ≡ true → Exchanged replied.g.own [] (received a) replied.own
 
-module _ (L : LoadRows) (s : State) (plans : Plans L) (tables : HasTables L.tables) (laid : Laid L s) (owned : Owned L (ledger_of L s)) (fits : Fitting L s) (clients : ClientGets L s)
+module _ (L : LoadRows) (s : State) (plans : Valid L) (tables : AreValidTables L.tables) (laid : Laid L s) (owned : Owned L (ledger_of L s)) (fits : Fitting L s) (clients : ClientGets L s)
     (t : ℕ) (thread new : Thread) (s' z : State) (f : StackFrame) (a : Answer) (method : MethodRow) (of : row s.threads t ≡ Some thread) (on_top : top (stack s t) ≡ Some f) (popped' : PoppedTo L s t thread new s') (reply : IsReply a)
     (called : method_of L f.target f.method ≡ Some method) (suits : ReplySuits (types_of L s) method.results a) (unlent : (g : StackFrame) (below above : List StackFrame) → stack s t ≡ below ++ g ∷ above → (p : ℕ) → 0 < count p (received a) → has g.lent p ≡ false)
     (load' : (i : ℕ) → instance_load z i ≡ instance_load s i) (replies : Replies L s' t a z) where

@@ -14,7 +14,6 @@ use Rattle.rl_defs.proofs.ValidFacts.{command_fits}
 use Rattle.machine_laws.specs.LedgerOf.{ledger_of}
 use Rattle.machine_laws.specs.LedgerSound.{Owned}
 use Rattle.machine_laws.specs.Shape.{Laid}
-use Rattle.machine_laws.specs.Plans.{Plans}
 use Rattle.machine_laws.specs.Fitting.{Fitting}
 use Rattle.machine_laws.specs.AtCall.{AtCall}
 use Rattle.machine_laws.proofs.ReturnSteps.{ClientGets}
@@ -24,8 +23,9 @@ use Rattle.machine_laws.proofs.NameKinds.{commanding, command_unused}
 use Rattle.machine_laws.proofs.NamesHeld.{makes_held, drops_held, shows_held, shows_hung}
 use Rattle.machine_laws.proofs.ClientCalls.{clients_call}
 use Rattle.machine_laws.proofs.ClientAnswers.{back_held, failed_held}
+use Rattle.rl_defs.specs.Valid.{Valid}
 
-module _ (L : LoadRows) (s : State) (plans : Plans L) (laid : Laid L s) (fits : Fitting L s) (at : (t : ℕ) → AtCall L s t) where
+module _ (L : LoadRows) (s : State) (plans : Valid L) (laid : Laid L s) (fits : Fitting L s) (at : (t : ℕ) → AtCall L s t) where
   -- what a client gets for its call is in the names of the command that it stands at
   pub client_gets : ClientGets L s
   client_gets t f (answer.Back values) method thread alone called reply suits of =

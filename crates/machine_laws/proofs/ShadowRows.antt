@@ -17,12 +17,12 @@ use Rattle.machine_defs.specs.Steps.{Row}
 use Rattle.machine_defs.specs.Sound.{ShadowsStand, instances_of}
 use Rattle.rl_defs.proofs.ValidFacts.{one_shadow, shadow_loads}
 use Rattle.machine_laws.specs.Shape.{Laid}
-use Rattle.machine_laws.specs.Plans.{Plans}
 use Rattle.machine_laws.proofs.Rows.{row_within, row_set_same, row_set_other, item_there}
 use Rattle.machine_laws.proofs.ReloadRow.{row_append_last, row_append_other}
 use Rattle.machine_laws.proofs.CodeDoing.{load_there}
 use Rattle.machine_laws.proofs.ShadowsKept.{same_row, still_stand}
 use Rattle.machine_laws.proofs.Parts.{load_of_instance, instance_for}
+use Rattle.rl_defs.specs.Valid.{Valid}
 
 abbrev hit : ℕ → ℕ → ℕ
 hit n k = cond (n == k) 1 0
@@ -47,10 +47,10 @@ slice_row : {A : Type 0} (xs : List A) (k : ℕ) (y : A) → row xs k ≡ Some y
 slice_row xs zero y e = absurd cc
 slice_row xs (suc k) y e = let same : k ≡ suc k - 1 = omega arith in subst (λ n. slice_get xs n ≡ Some y) same e
 
-loads_within : (L : LoadRows) → Plans L → (k : ℕ) (y : ShadowRow) → row L.shadows k ≡ Some y → (0 < y.load) × (y.load ≤ length L.loads)
+loads_within : (L : LoadRows) → Valid L → (k : ℕ) (y : ShadowRow) → row L.shadows k ≡ Some y → (0 < y.load) × (y.load ≤ length L.loads)
 loads_within L plans k y is = shadow_loads L plans (k - 1) y (slice_row L.shadows k y is)
 
-module _ (L : LoadRows) (s : State) (t x i left : ℕ) (z : State) (plans : Plans L) (laid : Laid L s) (stand : ShadowsStand L s) (r : Reloads L s t x i left z) where
+module _ (L : LoadRows) (s : State) (t x i left : ℕ) (z : State) (plans : Valid L) (laid : Laid L s) (stand : ShadowsStand L s) (r : Reloads L s t x i left z) where
   behind : (0 < x - length L.loads) × (x - length L.loads ≤ length s.shadows)
   behind = row_within s.shadows (x - length L.loads) r.shadow r.of
 
@@ -135,7 +135,7 @@ module _ (L : LoadRows) (s : State) (t x i left : ℕ) (z : State) (plans : Plan
           ]
 
 -- Shadows stand after each row, and after the sweep, which leaves them.
-pub shadows_stand : (L : LoadRows) (s : State) (e : Entry) (made : State) → Plans L → Laid L s → ShadowsStand L s → Row L s e made → ShadowsStand L (sweep_state made)
+pub shadows_stand : (L : LoadRows) (s : State) (e : Entry) (made : State) → Valid L → Laid L s → ShadowsStand L s → Row L s e made → ShadowsStand L (sweep_state made)
 shadows_stand L s e made plans laid stand r = record { current = (behind e r).current; left = (behind e r).left }
   where
     behind : (e : Entry) → Row L s e made → ShadowsStand L made
@@ -175,7 +175,7 @@ first_shadows (y ∷ ys) zero x shadow a b = cc
 first_shadows (y ∷ ys) (suc k) x shadow a b = first_shadows ys k x shadow a b
 
 -- at the start a shadow stands for the first instance of its load
-pub shadows_start : (L : LoadRows) → Plans L → ShadowsStand L (start L)
+pub shadows_start : (L : LoadRows) → Valid L → ShadowsStand L (start L)
 shadows_start L plans = record { current = current'; left = left' }
   where
     is_first : (k : ℕ) (shadow : Shadow) (x : ShadowRow) → row (start L).shadows k ≡ Some shadow → row L.shadows k ≡ Some x → shadow ≡ first_shadow x

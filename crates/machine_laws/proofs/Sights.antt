@@ -20,12 +20,12 @@ use Rattle.rl_defs.specs.Rows.{binds}
 use Rattle.machine_defs.specs.Seen.{types_of}
 use Rattle.rl_defs.proofs.ValidFacts.{bind_trait, binds_count, domain_tables, few_words}
 use Rattle.machine_laws.specs.Shape.{Rises, Laid}
-use Rattle.machine_laws.specs.Plans.{Plans}
 use Rattle.machine_laws.specs.Fitting.{Fitting}
 use Rattle.machine_laws.proofs.Objects.{found, found_above}
 use Rattle.machine_laws.proofs.Instances.{live_there}
 use Rattle.machine_laws.proofs.Retyping.{kinds_by_struct}
 use Rattle.machine_laws.proofs.Parts.{number_of_object, words_in, struct_or_none}
+use Rattle.rl_defs.specs.Valid.{Valid}
 
 -- an object that is found by a test is found by its number
 pub found_self : (n next : ℕ) (test : Object → Bool) (xs : List Object) (x : Object) → Rises n next xs → find test xs ≡ Some x → (found x.number xs ≡ Some x) × (test x ≡ true)
@@ -71,7 +71,7 @@ number_there (kind.Lent ty ∷ kinds) (n ∷ cells) zero same = refl
 number_there (kind.Cap t ∷ kinds) (n ∷ cells) zero same = refl
 number_there (k ∷ kinds) (n ∷ cells) (suc at) same = number_there kinds cells at (omega (arith, same))
 
-pub sees : (L : LoadRows) (s : State) (i : ℕ) → Plans L → Laid L s → Fitting L s → is_live s i ≡ true → FitsSight (types_of L s) (domain_of_instance L s i) (seen L s i)
+pub sees : (L : LoadRows) (s : State) (i : ℕ) → Valid L → Laid L s → Fitting L s → is_live s i ≡ true → FitsSight (types_of L s) (domain_of_instance L s i) (seen L s i)
 sees L s i plans laid fits lives = record {
   types_same = refl;
   cells = λ o at. rw (domain_tables L plans (instance_load s i)) (cell o at (object_of s o) refl);

@@ -21,7 +21,6 @@ use Rattle.machine_laws.specs.Ledger.{at}
 use Rattle.machine_laws.specs.LedgerOf.{ledger_of}
 use Rattle.machine_laws.specs.LedgerSound.{is_of, Owned}
 use Rattle.machine_laws.specs.Shape.{Laid}
-use Rattle.machine_laws.specs.Plans.{Plans, HasTables}
 use Rattle.machine_laws.specs.Fitting.{Fitting}
 use Rattle.machine_laws.proofs.Rows.{at_same, at_other, row_within}
 use Rattle.machine_laws.proofs.Objects.{found_below}
@@ -37,6 +36,7 @@ use Rattle.machine_laws.proofs.StaysRows.{stays_swept, new_stays, instances_row,
 use Rattle.machine_laws.proofs.ObjectsKept.{does_fit}
 use Rattle.machine_laws.proofs.Unlent.{in_slots_some}
 use Rattle.machine_laws.proofs.Parts.{slots_in, content, struct_or_none, instance_for}
+use Rattle.rl_defs.specs.Valid.{Valid, AreValidTables}
 
 -- a slot of a live instance was full so before
 pub record WasFull (s : State) (i k o : ℕ) : Type 0 where
@@ -163,7 +163,7 @@ slot_there L s i k o owned up full =
     go None e pos = absurd (omega (arith, pos))
     go (Some p) e pos = seated s o p e
 
-module _ (L : LoadRows) (s : State) (plans : Plans L) (tables : HasTables L.tables) (laid : Laid L s) (owned : Owned L (ledger_of L s)) (fits : Fitting L s) where
+module _ (L : LoadRows) (s : State) (plans : Valid L) (tables : AreValidTables L.tables) (laid : Laid L s) (owned : Owned L (ledger_of L s)) (fits : Fitting L s) where
   -- the struct of an object that was there and stays
   struct_stays : (made : State) (o : ℕ) (e : Entry) → Row L s e made → IsIn s o → IsIn (sweep made) o → (types_of L (sweep made)).struct_of o ≡ (types_of L s).struct_of o
   struct_stays made o (entry.New t w n ty values) makes before there =
@@ -213,7 +213,7 @@ module _ (L : LoadRows) (s : State) (plans : Plans L) (tables : HasTables L.tabl
     slots_row (entry.Put t n slot v) makes i k o up full = slots_put t n slot v makes i k o up full
     slots_row e makes i k o up full = slots_before e makes i k o up full (row_moves L SlotsStay e (slot_moves L e (λ puts. puts)) s made makes i k o up full)
 
-pub slots_fit : (L : LoadRows) (s : State) (e : Entry) (made : State) → Plans L → HasTables L.tables → Laid L s → Owned L (ledger_of L s) → Owned L (ledger_of L (sweep made)) → Fitting L s → Row L s e made
+pub slots_fit : (L : LoadRows) (s : State) (e : Entry) (made : State) → Valid L → AreValidTables L.tables → Laid L s → Owned L (ledger_of L s) → Owned L (ledger_of L (sweep made)) → Fitting L s → Row L s e made
     → (i k o : ℕ) → is_live (sweep made) i ≡ true → in_slot (sweep made) i k ≡ Some o
     → (types_of L (sweep made)).struct_of o ≡ struct_number L.tables (type_at (slots_declared (domain_of_instance L (sweep made) i).lines) (Some k))
 slots_fit L s e made plans tables laid owned owned' fits makes i k o up full = slots_row L s plans tables laid owned fits made owned' e makes i k o up full

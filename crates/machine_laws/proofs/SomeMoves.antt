@@ -27,7 +27,6 @@ use Rattle.machine_laws.specs.LedgerOf.{frame_entry, entries_of, is_done, ledger
 use Rattle.machine_laws.specs.LedgerRows.{enters, IsBelow}
 use Rattle.machine_laws.specs.LedgerSound.{Grounded}
 use Rattle.machine_laws.specs.Shape.{Laid}
-use Rattle.machine_laws.specs.Plans.{Plans, HasTables}
 use Rattle.machine_laws.specs.Fitting.{CallFits, CallsFit, Fitting}
 use Rattle.machine_laws.proofs.Stacks.{top_splits}
 use Rattle.machine_laws.proofs.Tops.{bottom, entries, under, entries_top, client_within}
@@ -41,6 +40,7 @@ use Rattle.machine_laws.proofs.StackFits.{calls_back}
 use Rattle.machine_laws.proofs.KeptSteps.{Kept}
 use Rattle.machine_laws.proofs.NeverStuck.{some_moves}
 use Rattle.machine_laws.proofs.Parts.{is_none_code}
+use Rattle.rl_defs.specs.Valid.{Valid, AreValidTables}
 
 -- where not every client is done, one isn't
 some_undone : (threads : List Thread) → (All (λ thread. thread.done ≡ true) threads → ⊥) → (k : ℕ) × (thread : Thread) × (slice_get threads k ≡ Some thread) × (thread.done ≡ false)
@@ -108,7 +108,7 @@ occupied_by L s t i laid lives taken =
       );
     }
 
-module _ (L : LoadRows) (us : List Turn) (s : State) (plans : Plans L) (tables : HasTables L.tables) (laid : Laid L s) (kept : Kept L us (ledger_of L s)) (fits : Fitting L s) where
+module _ (L : LoadRows) (us : List Turn) (s : State) (plans : Valid L) (tables : AreValidTables L.tables) (laid : Laid L s) (kept : Kept L us (ledger_of L s)) (fits : Fitting L s) where
   -- what is wished is of a target
   client_target : (t : ℕ) (w : Wish) → ClientWish L s t w → is_target L w.target ≡ true
   client_target t w wished =

@@ -11,7 +11,6 @@ use Rattle.machine_defs.specs.Wants.{name_held}
 use Rattle.machine_defs.specs.Seen.{in_slot, slots}
 use Rattle.rl_defs.specs.Valid.{Valid}
 use Rattle.rl_defs.proofs.ValidFacts.{name_within}
-use Rattle.machine_laws.specs.Plans.{Plans}
 use Rattle.machine_laws.specs.Shape.{Laid}
 use Rattle.machine_laws.specs.Fitting.{StackFits, CallsFit, BlockFits, NamesFit, Fitting}
 use Rattle.machine_laws.proofs.Start.{slot_first, row_mapped}
@@ -83,7 +82,7 @@ thread_start L (suc t) thread is = go L.clients t is
 pub block_blank : BlockFits (replicate 64 0)
 block_blank = record { size = refl; words = refl }
 
-pub start_fitting : (L : LoadRows) → Plans L → Valid L → Fitting L (start L)
+pub start_fitting : (L : LoadRows) → Valid L → Valid L → Fitting L (start L)
 start_fitting L plans scripts = record {
   bodies = λ t. subst (StackFits L (start L)) (sym (stack_empty L t)) tt;
   calls = λ t. subst (CallsFit L (start L)) (sym (stack_empty L t)) tt;

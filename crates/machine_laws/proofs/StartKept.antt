@@ -7,7 +7,8 @@ use Rattle.rl_defs.specs.declared.load.LoadRows.{LoadRows}
 use Rattle.rl_defs.specs.Domains.{load_of_target}
 use Rattle.machine_defs.specs.State.{start}
 use Rattle.machine_defs.specs.Seen.{slots}
-use Rattle.machine_laws.specs.Ledger.{same_owner, Ledger, lent_in}
+use Rattle.machine_defs.specs.Report.{same_owner}
+use Rattle.machine_laws.specs.Ledger.{Ledger, lent_in}
 use Rattle.machine_laws.specs.LedgerOf.{ledger_of}
 use Rattle.machine_laws.specs.LedgerSound.{own_in, held, Owned, Placed, IsPlan}
 use Rattle.machine_laws.proofs.Calls.{calls_of, CallsAgree}

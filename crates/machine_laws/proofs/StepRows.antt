@@ -39,7 +39,6 @@ use Rattle.machine_laws.specs.LedgerOf.{names_held, ledger_of}
 use Rattle.machine_laws.specs.LedgerSound.{Owned}
 use Rattle.machine_laws.specs.LedgerRows.{Exchanged, Row, LedgerStep}
 use Rattle.machine_laws.specs.Shape.{Laid}
-use Rattle.machine_laws.specs.Plans.{Plans, HasTables}
 use Rattle.machine_laws.specs.Fitting.{Fitting}
 use Rattle.machine_laws.proofs.Instances.{live_there}
 use Rattle.machine_laws.proofs.Seats.{seats}
@@ -57,6 +56,7 @@ use Rattle.machine_laws.proofs.EndSteps.{returns, unwinds, issues_again, reloads
 use Rattle.machine_laws.proofs.RefuseSteps.{refuses}
 use Rattle.machine_laws.proofs.LaidRows.{laid_row}
 use Rattle.machine_laws.proofs.Parts.{load_of_instance, number_of_object, slots_in, content}
+use Rattle.rl_defs.specs.Valid.{Valid, AreValidTables}
 
 -- What clients' scripts make sure of, in a state: their calls, what they get, make, drop, show and end.
 pub record ClientFacts (L : LoadRows) (s : State) : Type 0 where
@@ -83,7 +83,7 @@ find_not test q (y ∷ xs) x none is yes' = elim (cases_Bool (test y)) [
       ]
 ]
 
-module _ (L : LoadRows) (s : State) (plans : Plans L) (tables : HasTables L.tables) (laid : Laid L s) (owned : Owned L (ledger_of L s)) (fits : Fitting L s) (clients : ClientFacts L s) where
+module _ (L : LoadRows) (s : State) (plans : Valid L) (tables : AreValidTables L.tables) (laid : Laid L s) (owned : Owned L (ledger_of L s)) (fits : Fitting L s) (clients : ClientFacts L s) where
   -- an empty cell has nothing hung in it
   empty_cell : (o k : ℕ) → hung_in s o k ≡ None → (q : ℕ) → seats s q ≡ Some (Hung o k) → ⊥
   empty_cell o k none q is =

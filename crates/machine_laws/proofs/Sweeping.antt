@@ -4,7 +4,8 @@ use Rattle.std.proofs.lemmas.Bool.{cases_eq, cases_Bool, eqb-true, eq-eqb, and_p
 use Rattle.machine_defs.specs.declared.values.Owner.{Owner}
 use Rattle.rl_defs.specs.declared.load.LoadRows.{LoadRows}
 use Rattle.machine_defs.specs.State.{Placement, Root, Hung, lives}
-use Rattle.machine_laws.specs.Ledger.{same_owner, LedgerFrame, Ledger, alive, lent_in, loans_in, loans, is_lost, is_lost_above, is_doomed_at, is_doomed, sweep}
+use Rattle.machine_defs.specs.Report.{same_owner}
+use Rattle.machine_laws.specs.Ledger.{LedgerFrame, Ledger, alive, lent_in, loans_in, loans, is_lost, is_lost_above, is_doomed_at, is_doomed, sweep}
 use Rattle.machine_laws.specs.LedgerSound.{held_in, is_of, Covered, Owned}
 use Rattle.machine_laws.proofs.Owners.{same_is}
 

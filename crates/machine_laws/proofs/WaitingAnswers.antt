@@ -32,7 +32,6 @@ use Rattle.machine_defs.specs.Frames.{below_top, popped, Answers, AnswersBody, w
 use Rattle.machine_defs.specs.Sound.{own_of, own_of_body}
 use Rattle.machine_laws.specs.LedgerRows.{Exchanged}
 use Rattle.machine_laws.specs.Shape.{Laid}
-use Rattle.machine_laws.specs.Plans.{Plans, HasTables}
 use Rattle.machine_laws.specs.Registers.{Parted, own, received}
 use Rattle.machine_laws.specs.Fitting.{CodeWaits, BodyFits, Fitting}
 use Rattle.machine_laws.proofs.Rows.{row_set_same}
@@ -41,6 +40,7 @@ use Rattle.machine_laws.proofs.OwnFunctions.{answer_function}
 use Rattle.machine_laws.proofs.CodeDoing.{has_tables, keeps_rules}
 use Rattle.machine_laws.proofs.Counting.{count_append}
 use Rattle.machine_laws.proofs.Parts.{stand_after}
+use Rattle.rl_defs.specs.Valid.{Valid, AreValidTables}
 
 -- what a call is answered in the end
 abbrev pub IsReply : Answer → Type 0
@@ -62,7 +62,7 @@ pub record CodeReplied (types : Typing) (L : LoadRows) (d : Domain) (g after : S
   pub method : method_at d stand.at ≡ method_of L g.target g.method
   pub gains : (p : ℕ) → count p (own g.lent stand.regs) ≡ count p (own g.lent regs) + count p (received a)
 
-module _ (L : LoadRows) (s z : State) (plans : Plans L) (tables : HasTables L.tables) (fits : Fitting L s) (f g after : StackFrame) (a : Answer) (reply : IsReply a) (lives : is_live s g.instance ≡ true)
+module _ (L : LoadRows) (s z : State) (plans : Valid L) (tables : AreValidTables L.tables) (fits : Fitting L s) (f g after : StackFrame) (a : Answer) (reply : IsReply a) (lives : is_live s g.instance ≡ true)
     (load' : instance_load z g.instance ≡ instance_load s g.instance) (method : MethodRow) (called : method_of L f.target f.method ≡ Some method) (suits : ReplySuits (types_of L s) method.results a) (unlent : Unlent g.lent (received a)) (gets : Answers L z g a after) where
   abbrev d : Domain
   d = domain_of_instance L s g.instance

@@ -18,12 +18,6 @@ abbrev pub passing : (ℕ → Bool) → ℕ → List ℕ
 passing passes zero = []
 passing passes (suc n) = passing passes n ++ (if passes (suc n) then suc n ∷ [] else [])
 
-abbrev pub same_owner : Owner → Owner → Bool
-same_owner (owner.Client a) (owner.Client b) = a == b
-same_owner (owner.Instance a) (owner.Instance b) = a == b
-same_owner (owner.Client a) (owner.Instance b) = false
-same_owner (owner.Instance a) (owner.Client b) = false
-
 -- a frame: who acts in it, its call, and the objects that it has of its own. The client's own frame is the lowest of its stack; its objects
 -- are those of the script's names
 pub record LedgerFrame : Type 0 where

@@ -10,7 +10,8 @@ use Rattle.machine_defs.specs.Arguments.{lent_of}
 use Rattle.machine_laws.specs.Ledger.{sum_to}
 use Rattle.rl_defs.specs.Rows.{is_target}
 use Rattle.rl_defs.specs.Rows.{domain_of_load}
-use Rattle.machine_laws.specs.Ledger.{LedgerFrame, Ledger, same_owner, alive, lent_in, loans_in}
+use Rattle.machine_defs.specs.Report.{same_owner}
+use Rattle.machine_laws.specs.Ledger.{LedgerFrame, Ledger, alive, lent_in, loans_in}
 use Rattle.std.specs.Prelude.{slice_get}
 
 -- how often an object stands in slots, and among what the frames of a party have of their own

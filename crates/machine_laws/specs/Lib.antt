@@ -5,5 +5,4 @@ pub mod LedgerOf
 pub mod Shape
 pub mod Registers
 pub mod Fitting
-pub mod Plans
 pub mod AtCall
