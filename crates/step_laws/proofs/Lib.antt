@@ -1,0 +1,12 @@
+pub mod MadeRows
+pub mod LedgerLoans
+pub mod LedgerQuiet
+pub mod Quiet
+pub mod Loans
+pub mod Counting
+pub mod Roots
+pub mod Drops
+pub mod Returns
+pub mod Ends
+pub mod Naming
+pub mod Lending
