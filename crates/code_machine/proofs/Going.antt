@@ -24,7 +24,7 @@ use Rattle.rl_defs.proofs.Places.{drop_at}
 use Rattle.machine_defs.proofs.CodeSafe.{Safe, work_is, finds, safe_at, settles}
 use Rattle.machine_defs.proofs.CodeStands.{comes_to_code, stands_next, has_place, place_head, stands_jumped, jumps_to}
 use Rattle.rl_defs.proofs.TableSizes.{small_struct}
-use Rattle.code_machine.specs.Fitting.{standing, Fitting, AtInstr, IsNear, GoesToLabel}
+use Rattle.code_machine.specs.Fitting.{Fitting, AtInstr, IsNear, GoesToLabel}
 
 no_number : (o : Option ℕ) → is_some o ≡ false → o ≡ None
 no_number None e = refl

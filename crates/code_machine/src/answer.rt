@@ -1,15 +1,17 @@
 //! How a frame of domain code goes on from what its action is answered.
-ghost use Rattle.std.specs.Prelude.{◌≡◌};
+ghost use Rattle.std.specs.Prelude.{◌≡◌, []};
+ghost use Rattle.std.specs.Option.{option_map_or};
 ghost use Rattle.rl_defs.specs.declared.code.Instr.{Instr as AnInstr};
 ghost use Rattle.machine_defs.specs.declared.frame.FrameBody.TheVariants as body;
 ghost use Rattle.machine_defs.specs.Entries.{code_number};
-ghost use Rattle.rl_defs.specs.CodeKinds.{kinds_at, passed};
+ghost use Rattle.rl_defs.specs.CodeKinds.{kinds_at, passed, moved};
 ghost use Rattle.rl_defs.specs.Registers.{kept};
 ghost use Rattle.machine_defs.specs.Instructions.{behind_head};
 ghost use Rattle.rl_defs.specs.Registers.{Typing};
 ghost use Rattle.machine_defs.specs.CodeFits.{FitsStand, FitsWaiting, FitsAnswer, stand_of};
 ghost use Rattle.machine_defs.specs.Instructions.{given_up, all_given_up, put_values, answered, after_answer};
 ghost use Rattle.machine_defs.specs.CodeLaws.{StandsAt};
+ghost use Rattle.machine_defs.specs.Frames.{instr_at};
 ghost use Rattle.code_machine.specs.Fitting.{standing, put_at, Awaits, IsHead};
 
 use machine_defs::arrays::Registers;
@@ -35,13 +37,46 @@ pub fn take_answer<N: Drop>(domain: &CheckedDomain, frame: &mut Frame<N>, answer
         FitsAnswer types domain.now (kinds_at domain.now (stand_of frame.old.body).at) i answer.now →
         FitsStand types domain.now (stand_of frame.new.body) }
 {
+    match &mut frame.body {
+        FrameBody::Code { line, registers } => take_answer_in(domain, line, registers, answer),
+        FrameBody::Native { .. } => unreachable!(),
+    }
+}
+
+/// As `take_answer`, for a line and registers that need not stand in a frame: for an answer to register work that is done beside the
+/// machine.
+pub fn take_answer_in(
+    domain: &CheckedDomain,
+    line: &mut u32,
+    registers: &mut Registers,
+    answer: &Answer,
+)
+    requires { Awaits domain.now (standing line.old registers.old) answer.now }
+    ensures goes_on { (i : AnInstr) → StandsAt domain.now i (standing line.old registers.old) →
+        standing line.new registers.new ≡ after_answer domain.now (standing line.old registers.old) i answer.now }
+    ensures fits { (types : Typing) (i : AnInstr) → StandsAt domain.now i (standing line.old registers.old) →
+        FitsStand types domain.now (standing line.old registers.old) →
+        FitsAnswer types domain.now (kinds_at domain.now line.old) i answer.now →
+        FitsStand types domain.now (standing line.new registers.new) }
+    ensures fits_again { (types : Typing) (i : AnInstr) →
+        FitsWaiting types domain.now i (standing line.old registers.old) →
+        FitsAnswer types domain.now (kinds_at domain.now line.old) i answer.now →
+        FitsStand types domain.now (standing line.new registers.new) }
+{
     // Its contract says that the domain keeps the rules.
     let _ = domain.lines();
-    match &mut frame.body {
-        FrameBody::Code { line, registers } => {
-            *line = behind(domain, *line, registers, answer);
+    *line = behind(domain, *line, registers, answer);
+}
+
+/// A frame at a call's line waits for the call: the objects that the call moves leave its registers. At another instruction those that
+/// the instruction moves would leave, and where no instruction stands nothing changes.
+pub fn wait_for_call(domain: &CheckedDomain, line: u32, registers: &mut Registers)
+    ensures { registers.new ≡ all_given_up (option_map_or moved (instr_at domain.now line) []) registers.old }
+{
+    if let Some(at) = domain.lines().get(line as usize) {
+        if let DomainLine::Code(instr) = &at.form {
+            give_up_moved(registers, instr);
         }
-        FrameBody::Native { .. } => unreachable!(),
     }
 }
 
@@ -152,5 +187,28 @@ fn put_values(registers: &mut Registers, to: &[Register], values: &[Value])
             return;
         }
         registers.set(to[place], Some(values[place]));
+    }
+}
+
+// The objects that an instruction moves leave their registers.
+fn give_up_moved(registers: &mut Registers, instr: &Instr)
+    ensures { registers.new ≡ all_given_up (moved instr.now) registers.old }
+{
+    match instr {
+        Instr::Move(_, a) | Instr::Drop(a) | Instr::Put(_, a) | Instr::Hang(_, _, a) => {
+            give_up(registers, *a)
+        }
+        Instr::Call { args, .. } => give_up_passed(registers, args.as_slice()),
+        Instr::Ret(from) => give_up_all(registers, from.as_slice()),
+        _ => {}
+    }
+}
+
+// The objects in these registers leave them.
+fn give_up_all(registers: &mut Registers, from: &[Register])
+    ensures { registers.new ≡ all_given_up from.now registers.old }
+{
+    'each: for register in from {
+        give_up(registers, *register);
     }
 }

@@ -1,15 +1,14 @@
-use Rattle.std.proofs.Common.{ap}
-use Rattle.machine_defs.specs.CodeFits.{stand_of}
-use Rattle.machine_defs.proofs.CodeAnswers.{answers_fit, waiting_answers_fit}
-use Rattle.code_machine.proofs.Answering.{fits_there}
+use Rattle.std.proofs.Common.{ap, sym, subst}
+use Rattle.machine_defs.specs.CodeFits.{stand_of, FitsStand, FitsWaiting, FitsAnswer}
+use Rattle.machine_defs.specs.CodeLaws.{StandsAt}
+use Rattle.rl_defs.specs.CodeKinds.{kinds_at}
+use Rattle.rl_defs.specs.Registers.{Stand}
 use Rattle.code_machine.proofs.answer.take_answer.Goals as goal
 
 pub returns-clause-fits : goal.returns-clause-fits
-returns-clause-fits g c types i at stand fits =
-    fits_there c.args.domain.now types i c.args.answer.now (stand_of c.args.frame.now.body) _ _ (ap stand_of c.in-Code.is) (c.behind.ensures i) at
-    (answers_fit c.args.domain.now types i c.args.answer.now (stand_of c.args.frame.now.body) c.lines.ensures.keeps at stand fits)
+returns-clause-fits g c types i =
+    subst (λ (s : Stand). StandsAt c.args.domain.now i s → FitsStand types c.args.domain.now s → FitsAnswer types c.args.domain.now (kinds_at c.args.domain.now s.at) i c.args.answer.now → FitsStand types c.args.domain.now (record { at = c.take_answer_in.new.line; regs = c.take_answer_in.new.registers })) (sym (ap stand_of c.in-Code.is)) (c.take_answer_in.ensures.fits types i)
 
 pub returns-clause-fits_again : goal.returns-clause-fits_again
-returns-clause-fits_again g c types i waiting fits =
-    fits_there c.args.domain.now types i c.args.answer.now (stand_of c.args.frame.now.body) _ _ (ap stand_of c.in-Code.is) (c.behind.ensures i) (record { number = waiting.number; here = waiting.here })
-    (waiting_answers_fit c.args.domain.now types i c.args.answer.now (stand_of c.args.frame.now.body) c.lines.ensures.keeps waiting fits)
+returns-clause-fits_again g c types i =
+    subst (λ (s : Stand). FitsWaiting types c.args.domain.now i s → FitsAnswer types c.args.domain.now (kinds_at c.args.domain.now s.at) i c.args.answer.now → FitsStand types c.args.domain.now (record { at = c.take_answer_in.new.line; regs = c.take_answer_in.new.registers })) (sym (ap stand_of c.in-Code.is)) (c.take_answer_in.ensures.fits_again types i)
