@@ -1,0 +1,4 @@
+pub mod Tops
+pub mod Counting
+pub mod Holding
+pub mod Agreeing

@@ -1,0 +1,3 @@
+pub mod Laid
+pub mod Words
+pub mod Counted
