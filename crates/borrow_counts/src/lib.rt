@@ -1,0 +1,7 @@
+//! How often an object is lent, and whether its owner has ended: the two of which one word of an `RRef` tells who frees it
+//! (RedLeaf, OSDI 2020, section 3.1).
+#![tactic(auto)]
+
+mod word;
+
+pub use word::{BorrowWord, MOST_LOANS};

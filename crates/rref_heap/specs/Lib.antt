@@ -1,0 +1,8 @@
+pub mod HeapValue
+pub mod Changing
+pub mod Leaving
+pub mod Kept
+pub mod Spots
+pub mod Links
+pub mod Listing
+pub mod Store
