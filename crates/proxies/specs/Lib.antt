@@ -1,0 +1,4 @@
+pub mod Table
+pub mod Crossing
+pub mod Reentry
+pub mod Objects
