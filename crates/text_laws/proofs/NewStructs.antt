@@ -22,9 +22,8 @@ use Rattle.rl_defs.specs.declared.tables.StructRow.{StructRow}
 use Rattle.rl_defs.specs.declared.tables.Kind.{Kind}
 use Rattle.machine_defs.specs.Sight.{Sight}
 use Rattle.rl_defs.specs.DomainValue.{Domain}
-use Rattle.rl_defs.specs.CodeNames.{struct_number, slot_number}
+use Rattle.rl_defs.specs.CodeNames.{struct_number, slot_number, structs_used}
 use Rattle.rl_defs.specs.CodeRules.{KeepsRules}
-use Rattle.rl_defs.specs.NameRules.{structs_used}
 use Rattle.rl_defs.specs.Registers.{Registers, Stand, Typing}
 use Rattle.rl_defs.specs.Rows.{domain_of_load}
 use Rattle.rl_defs.specs.Valid.{Valid}

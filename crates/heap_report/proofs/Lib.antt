@@ -1,0 +1,10 @@
+pub mod Counted
+pub mod Growing
+pub mod Lines
+pub mod Mapped
+pub mod Picked
+pub mod Quiet
+pub mod Reported
+pub mod Rooms
+pub mod Summing
+pub mod Told

@@ -1,0 +1,9 @@
+pub mod Counting
+pub mod KeptAccounts
+pub mod KeptCalls
+pub mod KeptObjects
+pub mod Left
+pub mod Lines
+pub mod Putting
+pub mod Readings
+pub mod Summed

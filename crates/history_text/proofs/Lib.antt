@@ -1,0 +1,13 @@
+pub mod ActLaws
+pub mod DigitLaws
+pub mod FieldLaws
+pub mod Histories
+pub mod ItemLaws
+pub mod Kept
+pub mod KeptTallies
+pub mod LineLaws
+pub mod NameLaws
+pub mod Numerals
+pub mod Said
+pub mod Whole
+pub mod WordLaws
