@@ -11,7 +11,8 @@ use Rattle.rl_defs.specs.Domains.{Lines, trait_name}
 use Rattle.rl_defs.specs.BundleOrder.{IsDomainText}
 use Rattle.rl_defs.specs.Interfaces.{place_of, struct_names, trait_names, MethodText, TraitText, traits_of}
 use Rattle.rl_defs.specs.BundleNames.{Given, given, given_by, domain_given, slot_given, import_given, function_given, domain_lines, names_of}
-use Rattle.rl_defs.specs.NameRules.{GivenTwice, LabelTwice, IsUnknown, NamesUnknown, structs_used, traits_used, methods_of_trait, UnknownFunction, GivenTwiceInOne, MemberTwice, methods_given, in_domains}
+use Rattle.rl_defs.specs.CodeNames.{structs_used, traits_used}
+use Rattle.rl_defs.specs.NameRules.{GivenTwice, LabelTwice, IsUnknown, NamesUnknown, methods_of_trait, UnknownFunction, GivenTwiceInOne, MemberTwice, methods_given, in_domains}
 use Rattle.rl_defs.proofs.TableSizes.{all_at}
 use Rattle.bundle_names.specs.declared.interface_names.InterfaceNames.{InterfaceNames}
 use Rattle.bundle_names.specs.Scopes.{Scope, behind_all, repeats, Repeats, Somewhere}

@@ -1,5 +1,5 @@
 -- What a line of a domain gives and uses, by its form.
-use Rattle.std.proofs.Common.{◌≡◌, ℕ, Bool, true, false, ◌||◌, List, [], ◌∷◌, ◌++◌, map, refl, sym, ap, ◌∙◌}
+use Rattle.std.proofs.Common.{◌≡◌, ℕ, Bool, true, false, ◌||◌, List, [], ◌∷◌, ◌++◌, refl, sym, ap, ◌∙◌}
 use Rattle.std.specs.List.{list_any, flat_map}
 use Rattle.rl_defs.specs.declared.code.DomainLine.{DomainLine}
 use Rattle.rl_defs.specs.declared.code.DomainLine.TheVariants as line
@@ -9,112 +9,36 @@ use Rattle.rl_defs.specs.declared.code.HeadKind.TheVariants as head
 use Rattle.rl_defs.specs.declared.code.Instr.{Instr}
 use Rattle.rl_defs.specs.declared.code.Instr.TheVariants as instr
 use Rattle.rl_defs.specs.Interfaces.{place_of}
-use Rattle.rl_defs.specs.BundleNames.{Given, given, domain_given, slot_given, import_given, function_given}
-use Rattle.rl_defs.specs.NameRules.{IsUnknown, struct_of_kind, trait_of_kind, structs_used, traits_used}
-use Rattle.bundle_names.specs.Scopes.{member_before}
+use Rattle.rl_defs.specs.BundleNames.{domain_given, slot_given, import_given, function_given}
+use Rattle.rl_defs.specs.CodeNames.{struct_of_kind, trait_of_kind, structs_used, traits_used}
+use Rattle.rl_defs.specs.NameRules.{IsUnknown}
 use Rattle.bundle_names.specs.DomainNames.{domain_role, slot_role, import_role, function_role, is_absent, is_kind_unknown, names_unknown}
 use Rattle.bundle_names.proofs.Lists.{none_of, of_none, any_at, any_of, any_append, or_false}
-use Rattle.bundle_names.proofs.Lasting.{Lasts, Giving}
+use Rattle.bundle_names.proofs.Lasting.{GivesTo, Giving, passes, gives, giving}
 
-domain_gives : (n : ℕ) (form : DomainLine) (more : List Given) → member_before n (domain_role form) more ≡ map (given n) (domain_given form) ++ more
-domain_gives n (line.Domain a b) more = refl
-domain_gives n (line.Words k) more = refl
-domain_gives n (line.Slot a b) more = refl
-domain_gives n (line.Import a b) more = refl
-domain_gives n (line.Native b) more = refl
-domain_gives n (line.Function a) more = refl
-domain_gives n (line.Head a b) more = refl
-domain_gives n (line.Code i) more = refl
-domain_gives n line.Close more = refl
-
-domain_lasts : (form : DomainLine) → Lasts (domain_role form)
-domain_lasts (line.Domain a b) = tt
-domain_lasts (line.Words k) = tt
-domain_lasts (line.Slot a b) = tt
-domain_lasts (line.Import a b) = tt
-domain_lasts (line.Native b) = tt
-domain_lasts (line.Function a) = tt
-domain_lasts (line.Head a b) = tt
-domain_lasts (line.Code i) = tt
-domain_lasts line.Close = tt
+-- what each form of a line gives of domains, slots, imports and functions
+each_gives : (form : DomainLine) → GivesTo (domain_role form) (domain_given form) × GivesTo (slot_role form) (slot_given form) × GivesTo (import_role form) (import_given form) × GivesTo (function_role form) (function_given form)
+each_gives (line.Domain name has) = (gives name, passes, passes, passes)
+each_gives (line.Words k) = (passes, passes, passes, passes)
+each_gives (line.Slot name ty) = (passes, gives name, passes, passes)
+each_gives (line.Import name has) = (passes, passes, gives name, passes)
+each_gives (line.Native b) = (passes, passes, passes, passes)
+each_gives (line.Function name) = (passes, passes, passes, gives name)
+each_gives (line.Head label items) = (passes, passes, passes, passes)
+each_gives (line.Code i) = (passes, passes, passes, passes)
+each_gives line.Close = (passes, passes, passes, passes)
 
 pub giving_domains : Giving domain_role domain_given
-giving_domains = record { lasts = domain_lasts; gives = domain_gives }
-
-slot_gives : (n : ℕ) (form : DomainLine) (more : List Given) → member_before n (slot_role form) more ≡ map (given n) (slot_given form) ++ more
-slot_gives n (line.Domain a b) more = refl
-slot_gives n (line.Words k) more = refl
-slot_gives n (line.Slot a b) more = refl
-slot_gives n (line.Import a b) more = refl
-slot_gives n (line.Native b) more = refl
-slot_gives n (line.Function a) more = refl
-slot_gives n (line.Head a b) more = refl
-slot_gives n (line.Code i) more = refl
-slot_gives n line.Close more = refl
-
-slot_lasts : (form : DomainLine) → Lasts (slot_role form)
-slot_lasts (line.Domain a b) = tt
-slot_lasts (line.Words k) = tt
-slot_lasts (line.Slot a b) = tt
-slot_lasts (line.Import a b) = tt
-slot_lasts (line.Native b) = tt
-slot_lasts (line.Function a) = tt
-slot_lasts (line.Head a b) = tt
-slot_lasts (line.Code i) = tt
-slot_lasts line.Close = tt
+giving_domains = giving domain_role domain_given (λ form. (each_gives form).0)
 
 pub giving_slots : Giving slot_role slot_given
-giving_slots = record { lasts = slot_lasts; gives = slot_gives }
-
-import_gives : (n : ℕ) (form : DomainLine) (more : List Given) → member_before n (import_role form) more ≡ map (given n) (import_given form) ++ more
-import_gives n (line.Domain a b) more = refl
-import_gives n (line.Words k) more = refl
-import_gives n (line.Slot a b) more = refl
-import_gives n (line.Import a b) more = refl
-import_gives n (line.Native b) more = refl
-import_gives n (line.Function a) more = refl
-import_gives n (line.Head a b) more = refl
-import_gives n (line.Code i) more = refl
-import_gives n line.Close more = refl
-
-import_lasts : (form : DomainLine) → Lasts (import_role form)
-import_lasts (line.Domain a b) = tt
-import_lasts (line.Words k) = tt
-import_lasts (line.Slot a b) = tt
-import_lasts (line.Import a b) = tt
-import_lasts (line.Native b) = tt
-import_lasts (line.Function a) = tt
-import_lasts (line.Head a b) = tt
-import_lasts (line.Code i) = tt
-import_lasts line.Close = tt
+giving_slots = giving slot_role slot_given (λ form. (each_gives form).1)
 
 pub giving_imports : Giving import_role import_given
-giving_imports = record { lasts = import_lasts; gives = import_gives }
-
-function_gives : (n : ℕ) (form : DomainLine) (more : List Given) → member_before n (function_role form) more ≡ map (given n) (function_given form) ++ more
-function_gives n (line.Domain a b) more = refl
-function_gives n (line.Words k) more = refl
-function_gives n (line.Slot a b) more = refl
-function_gives n (line.Import a b) more = refl
-function_gives n (line.Native b) more = refl
-function_gives n (line.Function a) more = refl
-function_gives n (line.Head a b) more = refl
-function_gives n (line.Code i) more = refl
-function_gives n line.Close more = refl
-
-function_lasts : (form : DomainLine) → Lasts (function_role form)
-function_lasts (line.Domain a b) = tt
-function_lasts (line.Words k) = tt
-function_lasts (line.Slot a b) = tt
-function_lasts (line.Import a b) = tt
-function_lasts (line.Native b) = tt
-function_lasts (line.Function a) = tt
-function_lasts (line.Head a b) = tt
-function_lasts (line.Code i) = tt
-function_lasts line.Close = tt
+giving_imports = giving import_role import_given (λ form. (each_gives form).2)
 
 pub giving_functions : Giving function_role function_given
-giving_functions = record { lasts = function_lasts; gives = function_gives }
+giving_functions = giving function_role function_given (λ form. (each_gives form).3)
 
 -- names that nothing declares
 pub unknown_any : (names uses : List (List ℕ)) → list_any (is_absent names) uses ≡ true → IsUnknown uses names

@@ -19,27 +19,19 @@ use Rattle.bundle_names.specs.Scopes.{behind_all, repeats, Repeats, member_befor
 use Rattle.bundle_names.specs.InterfaceLines.{declared_role, field_role, method_role, is_twice, repeats_param, given_at, is_repeated, is_unknown, has_unknown}
 use Rattle.bundle_names.proofs.Lists.{or_true, or_left, or_right, get_map, get_map_back, any_append, or_false}
 use Rattle.bundle_names.proofs.Scoping.{no_open, unlift, lift, scope_repeats, repeats_twice}
-use Rattle.bundle_names.proofs.Lasting.{Lasts, Giving, given_repeats, repeats_given, given_scope, scope_given, behind_given, given_behind}
+use Rattle.bundle_names.proofs.Lasting.{GivesTo, Giving, passes, gives, giving, given_repeats, repeats_given, given_scope, scope_given, behind_given, given_behind}
 
 -- structs and traits
-declared_lasts : (line : IdlLine) → Lasts (declared_role line)
-declared_lasts (form.Struct x) = tt
-declared_lasts (form.Trait x) = tt
-declared_lasts (form.Field x ty) = tt
-declared_lasts (form.Method x ps r) = tt
-declared_lasts form.Idempotent = tt
-declared_lasts form.Close = tt
-
-declared_gives : (n : ℕ) (line : IdlLine) (more : List Given) → member_before n (declared_role line) more ≡ map (given n) (declared_given line) ++ more
-declared_gives n (form.Struct x) more = refl
-declared_gives n (form.Trait x) more = refl
-declared_gives n (form.Field x ty) more = refl
-declared_gives n (form.Method x ps r) more = refl
-declared_gives n form.Idempotent more = refl
-declared_gives n form.Close more = refl
+declared_gives : (line : IdlLine) → GivesTo (declared_role line) (declared_given line)
+declared_gives (form.Struct x) = gives x
+declared_gives (form.Trait x) = gives x
+declared_gives (form.Field x ty) = passes
+declared_gives (form.Method x ps r) = passes
+declared_gives form.Idempotent = passes
+declared_gives form.Close = passes
 
 giving_declared : Giving declared_role declared_given
-giving_declared = record { lasts = declared_lasts; gives = declared_gives }
+giving_declared = giving declared_role declared_given declared_gives
 
 -- what is given twice in one of the scopes that lines open, and back
 scope_again : (f : IdlLine → Role) (lines : Lines) (n : ℕ) (all : List (List Given)) → scopes f lines ≡ all → GivenTwiceInOne all n → Repeats f None lines n

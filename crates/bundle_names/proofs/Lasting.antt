@@ -92,10 +92,23 @@ given_scope all n h = record { number = h.number; gives = h.names; here = h.here
 pub scope_given : (all : List (List Given)) (n : ℕ) → ScopeTwice all n → GivenTwiceInOne all n
 scope_given all n h = record { number = h.number; names = h.gives; here = h.here; twice = behind_given h.gives n h.twice }
 
+-- the line neither opens nor ends the scope, and its role gives it these names: none, or one
+abbrev pub GivesTo : Role → List (List ℕ) → Type 0
+GivesTo r names = Lasts r × ((n : ℕ) (more : List Given) → member_before n r more ≡ map (given n) names ++ more)
+
+pub passes : GivesTo role.Passes []
+passes = (tt, λ n more. refl)
+
+pub gives : (name : List ℕ) → GivesTo (role.Gives name) (name ∷ [])
+gives name = (tt, λ n more. refl)
+
 -- A role that neither opens nor ends a scope gives the names that a line gives.
 pub record Giving {Form : Type 0} (f : Form → Role) (g : Form → List (List ℕ)) : Type 0 where
   pub lasts : (form : Form) → Lasts (f form)
   pub gives : (n : ℕ) (form : Form) (more : List Given) → member_before n (f form) more ≡ map (given n) (g form) ++ more
+
+pub giving : {Form : Type 0} (f : Form → Role) (g : Form → List (List ℕ)) → ((form : Form) → GivesTo (f form) (g form)) → Giving f g
+giving f g each = record { lasts = λ form. (each form).0; gives = λ n form more. (each form).1 n more }
 
 opens_none : (r : Role) (ms : List Given) (bs : List (List Given)) → Lasts r → scope_before r ms bs ≡ bs
 opens_none role.Opens ms bs h = absurd h

@@ -13,7 +13,8 @@ use Rattle.rl_defs.specs.Domains.{Lines, trait_name}
 use Rattle.rl_defs.specs.Interfaces.{place_of, struct_names, trait_names, Lines as IdlLines}
 use Rattle.rl_defs.specs.BundleOrder.{numbers_of, Rise}
 use Rattle.rl_defs.specs.BundleNames.{domain_lines, names_of, given_by, domain_given}
-use Rattle.rl_defs.specs.NameRules.{GivenTwice, MemberTwice, structs_used, traits_used, NamesUnknown, LabelTwice, UnknownFunction}
+use Rattle.rl_defs.specs.CodeNames.{structs_used, traits_used}
+use Rattle.rl_defs.specs.NameRules.{GivenTwice, MemberTwice, NamesUnknown, LabelTwice, UnknownFunction}
 use Rattle.bundle_names.specs.declared.roles.Role.{Role}
 use Rattle.bundle_names.specs.declared.roles.Role.TheVariants as role
 use Rattle.bundle_names.specs.declared.domain_lines.DomainScopes.{DomainScopes}

@@ -55,7 +55,8 @@ impl DomainScopes {
     ) -> Result<Option<u8>, AllocError>
         requires { HasSpace self.old }
         ensures behind { OnOk result (self.new ≡ declared_behind line.now self.old) }
-        ensures rule { IfOk result (λ rule. rule ≡ rule_when (is_given_again line.now self.old) (names_unknown known.now.structs known.now.traits methods.now line.now)) }
+        ensures rule { IfOk result (λ rule. rule ≡ rule_when (is_given_again line.now self.old)
+            (names_unknown known.now.structs known.now.traits methods.now line.now)) }
     {
         let repeats = self.pass(line)?;
         Ok(rule_when(

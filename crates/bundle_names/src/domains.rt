@@ -48,7 +48,8 @@ fn check_domain(
     requires few { names_in declared.old.domains + length domain.now.lines < 2 ^ 32 - 1 }
     requires rises { LinesRise domain.now.lines }
     requires one { IsOneDomain domain.now.lines }
-    ensures domains { OnOk result (declared.new.domains ≡ behind_all domain_role declared.old.domains domain.now.lines) }
+    ensures domains { OnOk result (declared.new.domains
+        ≡ behind_all domain_role declared.old.domains domain.now.lines) }
     ensures answer { Answers (FailsIn known.now declared.old.domains domain.now.lines) (λ _. Unit {0}) result }
 {
     declared.begin();

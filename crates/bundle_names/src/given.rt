@@ -55,8 +55,10 @@ impl Given {
 
     /// Takes what a line gives, and says whether it was given before.
     pub fn take(&mut self, form: &PlanLine) -> Result<bool, AllocError>
-        ensures again { IfOk result (λ again. (names : GivenNames) → AreGiven self.old names → again ≡ gives_again names form.now) }
-        ensures given { OnOk result ((names : GivenNames) → AreGiven self.old names → AreGiven self.new (given_after names form.now)) }
+        ensures again { IfOk result (λ again. (names : GivenNames) → AreGiven self.old names
+            → again ≡ gives_again names form.now) }
+        ensures given { OnOk result ((names : GivenNames) → AreGiven self.old names
+            → AreGiven self.new (given_after names form.now)) }
     {
         match form {
             PlanLine::Load { name, .. } | PlanLine::Shadow { name, .. } => {

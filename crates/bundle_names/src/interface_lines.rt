@@ -40,7 +40,8 @@ impl InterfaceScopes {
     ) -> Result<Option<u8>, AllocError>
         requires { HasRoom self.old }
         ensures behind { OnOk result (self.new ≡ given_behind line.now self.old) }
-        ensures rule { IfOk result (λ rule. rule ≡ rule_when (is_repeated line.now self.old) (has_unknown structs.now traits.now line.now)) }
+        ensures rule { IfOk result (λ rule. rule ≡ rule_when (is_repeated line.now self.old)
+            (has_unknown structs.now traits.now line.now)) }
     {
         let repeats = self.pass(alloc, line)?;
         Ok(rule_when(repeats, has_unknown(structs, traits, line)))

@@ -110,7 +110,8 @@ fn put_methods(
     rest: &[Numbered<IdlLine>],
 ) -> Result<(), AllocError>
     requires { length rest.now < 2 ^ 32 }
-    ensures { OnOk result (tables.new ≡ tables.old ++ role_tables (method_role line.now) (names_of (members method_role rest.now))) }
+    ensures { OnOk result (tables.new ≡ tables.old
+        ++ role_tables (method_role line.now) (names_of (members method_role rest.now))) }
 {
     match method_role(line) {
         Role::Opens => tables.push(methods_at_front(alloc, rest)?),

@@ -126,7 +126,8 @@ fn imports_of(alloc: Global, lines: &[Numbered<DomainLine>]) -> Result<Names, Al
 // Marks the place, if there is one.
 fn mark(marks: &mut Vec<bool>, place: Option<u32>)
     ensures count { length marks.new.items ≡ length marks.old.items }
-    ensures marks { (number : ℕ) → number < length marks.old.items → get_or marks.new.items number false ≡ (is_place number place || get_or marks.old.items number false) }
+    ensures marks { (number : ℕ) → number < length marks.old.items
+        → get_or marks.new.items number false ≡ (is_place number place || get_or marks.old.items number false) }
 {
     if let Some(place) = place {
         let place = place as usize;
@@ -144,7 +145,8 @@ fn loaded_domains(
     loaded: &[Name],
 ) -> Result<Vec<bool>, AllocError>
     ensures count { IfOk result (λ marks. length marks.items ≡ count) }
-    ensures marks { IfOk result (λ marks. (number : ℕ) → number < count → get_or marks.items number false ≡ is_loaded loaded.now domains.now number) }
+    ensures marks { IfOk result (λ marks. (number : ℕ) → number < count
+        → get_or marks.items number false ≡ is_loaded loaded.now domains.now number) }
 {
     let Ok(mut marks) = vec![in alloc; false; count] else {
         return Err(AllocError);

@@ -22,7 +22,8 @@ pub fn check_domains(
 ) -> Result<List<CheckedDomain>, LoadFault>
     requires small { AreTablesSmall tables.now }
     requires order { InOrder domains }
-    ensures { Answers (FailsDomains tables.now domains) (λ checked. checked ≡ map (checked_with tables.now) domains) result }
+    ensures { Answers (FailsDomains tables.now domains)
+        (λ checked. checked ≡ map (checked_with tables.now) domains) result }
 {
     let Ok(shared) = tables.share() else {
         return Err(LoadFault::Memory);

@@ -56,7 +56,9 @@ pub fn check_plan(
     clients: &Clients,
 ) -> Result<PlanRows, LoadFault>
     requires { (idl : Part) × HasNames (bundle_of idl domains.now plan.now clients.now) }
-    ensures { (idl : Part) → Answers (FailsPlanRules (bundle_of idl domains.now plan.now clients.now)) (AreRowsOf (bundle_of idl domains.now plan.now clients.now)) result }
+    ensures { (idl : Part)
+        → Answers (FailsPlanRules (bundle_of idl domains.now plan.now clients.now))
+        (AreRowsOf (bundle_of idl domains.now plan.now clients.now)) result }
 {
     let all = domains.as_slice();
     let lines = plan.lines.as_slice();

@@ -48,7 +48,8 @@ fn put(pairs: &mut Pairs, name: &Name, other: &Name) -> Result<(), AllocError>
 /// The loads of a plan, each with the name of its domain.
 pub fn loads_of(alloc: Global, lines: &[Numbered<PlanLine>]) -> Result<Pairs, AllocError>
     requires { length lines.now < 2 ^ 31 }
-    ensures { IfOk result (λ p. ArePairs p.names p.others (names_of (given_by load_given lines.now)) (names_of (given_by domains_loaded lines.now))) }
+    ensures { IfOk result (λ p. ArePairs p.names p.others
+        (names_of (given_by load_given lines.now)) (names_of (given_by domains_loaded lines.now))) }
 {
     let mut pairs = no_pairs(alloc);
     'lines: for line in lines {
@@ -62,7 +63,8 @@ pub fn loads_of(alloc: Global, lines: &[Numbered<PlanLine>]) -> Result<Pairs, Al
 /// The shadows of a plan, each with the name of its load.
 pub fn shadows_of(alloc: Global, lines: &[Numbered<PlanLine>]) -> Result<Pairs, AllocError>
     requires { length lines.now < 2 ^ 31 }
-    ensures { IfOk result (λ p. ArePairs p.names p.others (names_of (given_by shadow_given lines.now)) (names_of (given_by shadowed lines.now))) }
+    ensures { IfOk result (λ p. ArePairs p.names p.others
+        (names_of (given_by shadow_given lines.now)) (names_of (given_by shadowed lines.now))) }
 {
     let mut pairs = no_pairs(alloc);
     'lines: for line in lines {
@@ -103,7 +105,9 @@ pub fn loaded_of(alloc: Global, lines: &[Numbered<PlanLine>]) -> Result<Names, A
 
 // Notes what is bound to an import, unless something is bound to it.
 fn bind(binds: &mut Binds, load: &Name, import: &Name, target: &Name) -> Result<(), AllocError>
-    ensures noted { OnOk result ((q : Items ℕ) (r : Items ℕ) → get same_pair binds.new (q, r) ≡ noted_pair (get same_pair binds.old (q, r)) load.now import.now target.now q r) }
+    ensures noted { OnOk result ((q : Items ℕ) (r : Items ℕ)
+        → get same_pair binds.new (q, r)
+        ≡ noted_pair (get same_pair binds.old (q, r)) load.now import.now target.now q r) }
     ensures named { IsTrue (is_name load.now) }
 {
     let _ = load.bytes();

@@ -47,7 +47,8 @@ fn binds_of(
     load: &Name,
     imports: &[Name],
 ) -> Result<List<u32>, AllocError>
-    ensures { IfOk result (λ binds. binds ≡ map (λ import. target_number tables.now (bound_to tables.now load.now import)) imports.now) }
+    ensures { IfOk result (λ binds. binds
+        ≡ map (λ import. target_number tables.now (bound_to tables.now load.now import)) imports.now) }
 {
     let mut binds = List::new(alloc);
     'imports: for import in imports {
@@ -63,7 +64,8 @@ fn binds_of_load(
     domain: &Name,
 ) -> Result<List<u32>, AllocError>
     requires { IsLoaded tables.now domain.now }
-    ensures { IfOk result (λ binds. binds ≡ binds_of tables.now load.now (unwrap_or (lines_of_domain tables.now domain.now) [])) }
+    ensures { IfOk result (λ binds. binds
+        ≡ binds_of tables.now load.now (unwrap_or (lines_of_domain tables.now domain.now) [])) }
 {
     match tables.domain(domain) {
         Some(facts) => binds_of(alloc, tables, load, facts.imports()),
@@ -223,7 +225,12 @@ pub fn rows_of(
 ) -> Result<PlanRows, AllocError>
     requires within { AreWithin tables.now.plan.lines }
     requires few { length clients.now < 2 ^ 31 }
-    ensures { IfOk result (AreRowsOf (record { idl = tables.now.idl; domains = tables.now.domains; plan = tables.now.plan; clients = record { lines = clients.now } })) }
+    ensures { IfOk result (AreRowsOf (record {
+      idl = tables.now.idl;
+      domains = tables.now.domains;
+      plan = tables.now.plan;
+      clients = record { lines = clients.now };
+    })) }
 {
     let names = client_names(alloc, clients)?;
     let lines = tables.lines();

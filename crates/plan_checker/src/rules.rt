@@ -53,7 +53,9 @@ impl Seen {
         ensures loads { OnOk result (self.new.loads ≡ self.old.loads + length (load_given form.now)) }
         ensures shadowed { OnOk result (self.new.shadowed ≡ self.old.shadowed ++ shadowed form.now) }
         ensures devices { OnOk result (self.new.devices ≡ self.old.devices + length (device_given form.now)) }
-        ensures few { OnOk result (IsSmallStep self.old.loads self.new.loads × IsSmallStep self.old.devices self.new.devices × IsSmallStep (length self.old.shadowed) (length self.new.shadowed)) }
+        ensures few { OnOk result (IsSmallStep self.old.loads self.new.loads
+            × IsSmallStep self.old.devices self.new.devices
+            × IsSmallStep (length self.old.shadowed) (length self.new.shadowed)) }
     {
         match form {
             PlanLine::Load { .. } => self.loads += 1,

@@ -51,7 +51,10 @@ impl<'a> Model for PlanTables<'a> {
 
     ghost view = { λ t. plan_bundle t.all.now t.lines.now };
 
-    ghost invariant = { λ t. AreTables (plan_bundle t.all.now t.lines.now) t.domains.names t.domains.numbers t.domains.facts t.loads.names t.loads.others t.shadows.names t.shadows.others t.serial (λ q r. get same_pair t.binds (q, r)) };
+    ghost invariant = { λ t. AreTables (plan_bundle t.all.now t.lines.now)
+        t.domains.names t.domains.numbers t.domains.facts
+        t.loads.names t.loads.others t.shadows.names t.shadows.others
+        t.serial (λ q r. get same_pair t.binds (q, r)) };
 }
 
 // Puts a domain last, with its number, if it is among those that are loaded.
@@ -63,7 +66,10 @@ fn put<'a>(
     domain: &'a CheckedDomain,
 ) -> Result<(), AllocError>
     requires { length domains.old.names < 2 ^ 31 }
-    ensures { OnOk result (IsPut loaded.now domain.now.lines number domains.old.names domains.new.names domains.old.numbers domains.new.numbers domains.old.facts domains.new.facts) }
+    ensures { OnOk result (IsPut loaded.now domain.now.lines number
+        domains.old.names domains.new.names
+        domains.old.numbers domains.new.numbers
+        domains.old.facts domains.new.facts) }
 {
     let head = head(domain);
     if loaded.place(&head.name).is_none() {
@@ -83,7 +89,9 @@ fn domains_of<'a>(
     domains: &'a [CheckedDomain],
 ) -> Result<Domains<'a>, AllocError>
     requires { length domains.now < 2 ^ 31 }
-    ensures { IfOk result (λ d. (lines : PlanLines) → loaded.now ≡ names_of (given_by domains_loaded lines) → AreLoaded (plan_bundle domains.now lines) d.names d.numbers d.facts) }
+    ensures { IfOk result (λ d. (lines : PlanLines)
+        → loaded.now ≡ names_of (given_by domains_loaded lines)
+        → AreLoaded (plan_bundle domains.now lines) d.names d.numbers d.facts) }
 {
     let mut all = Domains {
         names: Names::new(alloc),

@@ -25,9 +25,8 @@ use Rattle.rl_defs.specs.Words.{same_bytes}
 use Rattle.rl_defs.specs.Interfaces.{place_of}
 use Rattle.rl_defs.specs.Domains.{Lines, row, load_row, load_of_target, load_of_row, load_of_shadow, shadow_row, slots_of, words_of, method_of, method_in, trait_named, trait_name, trait_of_form, lines_of_load, lines_of_row, domain_lines}
 use Rattle.rl_defs.specs.DomainParts.{IsOneDomain, begins_domain}
-use Rattle.rl_defs.specs.CodeNames.{Declared, imports, type_at, type_of, cells_of, flat_of, methods_of, rows_of, method_number, trait_number, domain_trait}
+use Rattle.rl_defs.specs.CodeNames.{Declared, imports, type_at, type_of, cells_of, flat_of, methods_of, rows_of, method_number, trait_number, domain_trait, traits_used}
 use Rattle.rl_defs.specs.CodeKinds.{hung_at, hung_in}
-use Rattle.rl_defs.specs.NameRules.{traits_used}
 use Rattle.rl_defs.specs.TableSizes.{IsMethodSmall, IsTraitSmall}
 use Rattle.rl_defs.specs.Rows.{is_target, trait_if, trait_of_target, domain_of_load, domain_in, domain_or_none, binds, binds_in, commands_of, bound_by}
 use Rattle.rl_defs.specs.ValidScripts.{CommandFits, IsValidScript}

@@ -1,8 +1,10 @@
 -- What the names in domain code stand for.
 use Rattle.std.specs.Prelude.{ℕ, ◌+◌, [], ◌∷◌, List, map, unwrap_or, Option, Some, None, slice_get, Bool, true, false, zero, suc, drop, if◌then◌else◌}
-use Rattle.std.specs.List.{list_any}
+use Rattle.std.specs.List.{list_any, flat_map}
 use Rattle.std.specs.Option.{option_map, option_map_or, option_and_then}
 use Rattle.rl_defs.specs.declared.code.DomainLine.TheVariants as line
+use Rattle.rl_defs.specs.declared.code.HeadKind.{HeadKind}
+use Rattle.rl_defs.specs.declared.code.HeadKind.TheVariants as head
 use Rattle.rl_defs.specs.declared.code.Instr.TheVariants as instr
 use Rattle.rl_defs.specs.declared.tables.Tables.{Tables}
 use Rattle.rl_defs.specs.declared.tables.Kind.{Kind}
@@ -95,6 +97,28 @@ import_trait d name = trait_number d.tables (type_at (imports d.lines) (place_in
 -- the trait of a domain
 abbrev pub domain_trait : Domain → ℕ
 domain_trait d = trait_number d.tables (trait_name d.lines)
+
+-- the structs, and the traits, that a line of a domain names
+abbrev pub struct_of_kind : HeadKind → List (List ℕ)
+struct_of_kind (head.Own ty) = ty ∷ []
+struct_of_kind (head.Lent ty) = ty ∷ []
+struct_of_kind _ = []
+
+abbrev pub trait_of_kind : HeadKind → List (List ℕ)
+trait_of_kind (head.Cap has) = has ∷ []
+trait_of_kind _ = []
+
+abbrev pub structs_used : DomainLine → List (List ℕ)
+structs_used (line.Slot name ty) = ty ∷ []
+structs_used (line.Head label items) = flat_map (λ item. struct_of_kind item.kind) items
+structs_used (line.Code (instr.New a ty)) = ty ∷ []
+structs_used _ = []
+
+abbrev pub traits_used : DomainLine → List (List ℕ)
+traits_used (line.Domain name has) = has ∷ []
+traits_used (line.Import name has) = has ∷ []
+traits_used (line.Head label items) = flat_map (λ item. trait_of_kind item.kind) items
+traits_used _ = []
 
 -- the domain has a `words` line
 abbrev pub declares_words : DomainLine → Bool

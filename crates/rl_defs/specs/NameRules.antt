@@ -9,10 +9,7 @@ use Rattle.rl_defs.specs.declared.bundle.ScriptArgText.{ScriptArgText}
 use Rattle.rl_defs.specs.declared.bundle.ScriptArgText.TheVariants as arg
 use Rattle.rl_defs.specs.declared.bundle.ClientLine.{ClientLine}
 use Rattle.rl_defs.specs.declared.bundle.ClientLine.TheVariants as client
-use Rattle.rl_defs.specs.declared.code.HeadKind.{HeadKind}
-use Rattle.rl_defs.specs.declared.code.HeadKind.TheVariants as head
 use Rattle.rl_defs.specs.declared.code.HeadItem.{HeadItem}
-use Rattle.rl_defs.specs.declared.code.Instr.TheVariants as instr
 use Rattle.rl_defs.specs.declared.code.DomainLine.{DomainLine}
 use Rattle.rl_defs.specs.declared.code.DomainLine.TheVariants as line
 use Rattle.rl_defs.specs.declared.idl.Idl.{Idl}
@@ -25,7 +22,7 @@ use Rattle.rl_defs.specs.declared.bundle.Bundle.{Bundle}
 use Rattle.rl_defs.specs.Refusals.{Failing, HasLine}
 use Rattle.rl_defs.specs.Interfaces.{Lines as InterfaceLines, StructText, TraitText, structs_of, traits_of, types_in, struct_names, trait_names, place_of}
 use Rattle.rl_defs.specs.Domains.{Lines, trait_name}
-use Rattle.rl_defs.specs.CodeNames.{imports, place_in, function_at}
+use Rattle.rl_defs.specs.CodeNames.{imports, place_in, function_at, structs_used, traits_used}
 use Rattle.rl_defs.specs.BundleNames.{Given, given, given_by, names_of, domain_given, slot_given, import_given, function_given, domain_lines, target_given, bind_given, serial_given, fuel_given, order_given, client_given, ClientLines, scripts_of, name_given, domains_loaded, domain_names, load_names, target_names, client_names, load_lines}
 
 -- rule 3: the line of this number gives a name that was given before
@@ -157,28 +154,6 @@ RepeatsName b n =
     ⊎ (PlanTwice b n
     ⊎ (GivenTwice (given_by client_given b.clients.lines) n
     ⊎ GivenTwiceInOne (map (given_by name_given) (scripts_of b.clients.lines)) n))))
-
--- the structs, and the traits, that a line of a domain names
-abbrev pub struct_of_kind : HeadKind → List (List ℕ)
-struct_of_kind (head.Own ty) = ty ∷ []
-struct_of_kind (head.Lent ty) = ty ∷ []
-struct_of_kind _ = []
-
-abbrev pub trait_of_kind : HeadKind → List (List ℕ)
-trait_of_kind (head.Cap has) = has ∷ []
-trait_of_kind _ = []
-
-abbrev pub structs_used : DomainLine → List (List ℕ)
-structs_used (line.Slot name ty) = ty ∷ []
-structs_used (line.Head label items) = flat_map (λ item. struct_of_kind item.kind) items
-structs_used (line.Code (instr.New a ty)) = ty ∷ []
-structs_used _ = []
-
-abbrev pub traits_used : DomainLine → List (List ℕ)
-traits_used (line.Domain name has) = has ∷ []
-traits_used (line.Import name has) = has ∷ []
-traits_used (line.Head label items) = flat_map (λ item. trait_of_kind item.kind) items
-traits_used _ = []
 
 -- the methods of the trait of this name
 abbrev pub methods_of_trait : Bundle → List ℕ → List (List ℕ)

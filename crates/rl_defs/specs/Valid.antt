@@ -16,9 +16,8 @@ use Rattle.rl_defs.specs.declared.load.ShadowRow.{ShadowRow}
 use Rattle.rl_defs.specs.declared.load.ClientRow.{ClientRow}
 use Rattle.rl_defs.specs.DomainValue.{Domain}
 use Rattle.rl_defs.specs.Domains.{row, load_row, load_of_target, slots_of, words_of, is_native}
-use Rattle.rl_defs.specs.CodeNames.{Declared, imports, functions, trait_number, cells_of}
+use Rattle.rl_defs.specs.CodeNames.{Declared, imports, functions, trait_number, cells_of, structs_used, traits_used}
 use Rattle.rl_defs.specs.CodeRules.{KeepsRules}
-use Rattle.rl_defs.specs.NameRules.{structs_used, traits_used}
 use Rattle.rl_defs.specs.TableSizes.{AreTablesSmall}
 use Rattle.rl_defs.specs.Rows.{domain_of_load, is_target, trait_of_target}
 use Rattle.rl_defs.specs.ValidScripts.{IsValidScript}

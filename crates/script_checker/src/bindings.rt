@@ -83,7 +83,11 @@ impl Bindings {
 
     /// Binds a name.
     pub fn bind(&mut self, name: &Name, kind: Kind) -> Result<(), AllocError>
-        ensures { OnOk result (self.new ≡ record { names = self.old.names ++ name.now ∷ []; bound = self.old.bound ++ bound_name name.now kind ∷ []; gone = self.old.gone }) }
+        ensures { OnOk result (self.new ≡ record {
+          names = self.old.names ++ name.now ∷ [];
+          bound = self.old.bound ++ bound_name name.now kind ∷ [];
+          gone = self.old.gone;
+        }) }
     {
         push(&mut self.kinds, kind)?;
         match add(&mut self.names, name) {
@@ -97,7 +101,11 @@ impl Bindings {
 
     /// Notes that the object of a name was moved or dropped.
     pub fn leave(&mut self, name: &Name) -> Result<(), AllocError>
-        ensures { OnOk result (self.new ≡ record { names = self.old.names; bound = self.old.bound; gone = self.old.gone ++ name.now ∷ [] }) }
+        ensures { OnOk result (self.new ≡ record {
+          names = self.old.names;
+          bound = self.old.bound;
+          gone = self.old.gone ++ name.now ∷ [];
+        }) }
     {
         add(&mut self.gone, name)?;
         Ok(())

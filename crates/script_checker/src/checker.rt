@@ -27,7 +27,9 @@ pub fn check_scripts(
     clients: &Clients,
 ) -> Result<List<ClientRow>, LoadFault>
     requires { (idl : Idl) × HasPlan tables.now (bundle_of idl domains.now plan.now clients.now) }
-    ensures { (idl : Idl) → Answers (FailsScripts tables.now (bundle_of idl domains.now plan.now clients.now)) (λ rows. rows ≡ clients_of tables.now (bundle_of idl domains.now plan.now clients.now)) result }
+    ensures { (idl : Idl)
+        → Answers (FailsScripts tables.now (bundle_of idl domains.now plan.now clients.now))
+        (λ rows. rows ≡ clients_of tables.now (bundle_of idl domains.now plan.now clients.now)) result }
 {
     let scope = Scope::new(alloc, tables, domains, plan, clients)?;
     rows_of(alloc, &scope)

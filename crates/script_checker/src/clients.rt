@@ -31,7 +31,8 @@ fn commands_at(lines: &[Numbered<ClientLine>]) -> &[Numbered<ClientLine>]
 
 /// The rows of the clients, each with the commands of its script, or the first refusal.
 pub fn rows_of(alloc: Global, scope: &Scope) -> Result<List<ClientRow>, LoadFault>
-    ensures { Says (verdict_of scope.now.tables scope.now.bundle scope.now.bundle.clients.lines) (λ rows. rows ≡ rows_of scope.now.tables scope.now.bundle scope.now.bundle.clients.lines) result }
+    ensures { Says (verdict_of scope.now.tables scope.now.bundle scope.now.bundle.clients.lines)
+        (λ rows. rows ≡ rows_of scope.now.tables scope.now.bundle scope.now.bundle.clients.lines) result }
 {
     let lines = scope.lines();
     let mut rows = List::new(alloc);

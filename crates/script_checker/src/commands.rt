@@ -74,7 +74,8 @@ pub fn command_of(
     bindings: &Bindings,
     form: &ClientLine,
 ) -> Result<Option<Command>, AllocError>
-    ensures { IfOk result (λ command. option_to_list command ≡ commands_in scope.now.tables scope.now.bundle bindings.now.names form.now) }
+    ensures { IfOk result (λ command. option_to_list command
+        ≡ commands_in scope.now.tables scope.now.bundle bindings.now.names form.now) }
 {
     let command = match form {
         ClientLine::Let { name, ty, values } => Command::Let {

@@ -159,7 +159,8 @@ fn call_suits(
     args: &[ScriptArgText],
     names: &[Name],
 ) -> bool
-    ensures { result ≡ call_suits scope.now.tables scope.now.bundle bindings.now.bound (option_copied method.entry) args.now names.now }
+    ensures { result ≡ call_suits scope.now.tables scope.now.bundle bindings.now.bound
+        (option_copied method.entry) args.now names.now }
 {
     match method {
         Some(row) => {

@@ -178,7 +178,11 @@ pub fn keeps_owned(bindings: &Bindings, form: &ClientLine, moved: &[Name]) -> bo
 }
 
 fn leave_all(bindings: &mut Bindings, names: &[Name]) -> Result<(), AllocError>
-    ensures { OnOk result (bindings.new ≡ record { names = bindings.old.names; bound = bindings.old.bound; gone = bindings.old.gone ++ names.now }) }
+    ensures { OnOk result (bindings.new ≡ record {
+      names = bindings.old.names;
+      bound = bindings.old.bound;
+      gone = bindings.old.gone ++ names.now;
+    }) }
 {
     'each: for name in names {
         bindings.leave(name)?;
@@ -189,7 +193,11 @@ fn leave_all(bindings: &mut Bindings, names: &[Name]) -> Result<(), AllocError>
 /// Notes the objects that the line moves, or drops.
 pub fn leave(bindings: &mut Bindings, form: &ClientLine, moved: &[Name]) -> Result<(), AllocError>
     requires { moved.now ≡ flat_map (moved_by bindings.old.bound) (args_of form.now) }
-    ensures { OnOk result (bindings.new ≡ record { names = bindings.old.names; bound = bindings.old.bound; gone = bindings.old.gone ++ gone_by bindings.old.bound form.now }) }
+    ensures { OnOk result (bindings.new ≡ record {
+      names = bindings.old.names;
+      bound = bindings.old.bound;
+      gone = bindings.old.gone ++ gone_by bindings.old.bound form.now;
+    }) }
 {
     match form {
         ClientLine::Call { .. } => leave_all(bindings, moved),

@@ -38,9 +38,15 @@ impl<'a> Model for Scope<'a> {
 
     ghost Value = { Scoped };
 
-    ghost view = { λ s. record { tables = s.tables.now; bundle = without_interfaces s.domains.now s.plan.now s.clients.now } };
+    ghost view = { λ s. record {
+      tables = s.tables.now;
+      bundle = without_interfaces s.domains.now s.plan.now s.clients.now;
+    } };
 
-    ghost invariant = { λ s. IsScope (record { tables = s.tables.now; bundle = without_interfaces s.domains.now s.plan.now s.clients.now }) s.structs s.methods s.loads.names s.loads.traits s.shadows.names s.shadows.traits };
+    ghost invariant = { λ s. IsScope (record {
+      tables = s.tables.now;
+      bundle = without_interfaces s.domains.now s.plan.now s.clients.now;
+    }) s.structs s.methods s.loads.names s.loads.traits s.shadows.names s.shadows.traits };
 }
 
 fn method_at(tables: &Tables, of: u32, number: u32) -> Option<&MethodRow>
@@ -61,7 +67,10 @@ impl<'a> Scope<'a> {
         plan: &'a Plan,
         clients: &'a Clients,
     ) -> Result<Scope<'a>, AllocError>
-        ensures { IfOk result (λ s. s ≡ record { tables = tables.now; bundle = without_interfaces domains.now plan.now clients.now }) }
+        ensures { IfOk result (λ s. s ≡ record {
+          tables = tables.now;
+          bundle = without_interfaces domains.now plan.now clients.now;
+        }) }
     {
         let traits = trait_names(alloc, tables.traits.as_slice())?;
         let structs = struct_names(alloc, tables.structs.as_slice())?;

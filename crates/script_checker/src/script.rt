@@ -40,7 +40,8 @@ fn bind_results(
     method: Option<&MethodRow>,
 ) -> Result<(), AllocError>
     requires { names_suit (results_of (option_copied method)) names.now ≡ true }
-    ensures { OnOk result (bindings.new ≡ with_names bindings.old names.now (paired names.now (results_of (option_copied method.entry)))) }
+    ensures { OnOk result (bindings.new ≡ with_names bindings.old names.now
+        (paired names.now (results_of (option_copied method.entry)))) }
 {
     match method {
         Some(row) => {
@@ -56,7 +57,8 @@ fn bind_results(
 // Binds the names of a line.
 fn bind(scope: &Scope, bindings: &mut Bindings, form: &ClientLine) -> Result<(), AllocError>
     requires { (bound : List Bound) × (keeps_kinds scope.now.tables scope.now.bundle bound form.now ≡ true) }
-    ensures { OnOk result (bindings.new ≡ with_names bindings.old (name_given form.now) (binds scope.now.tables scope.now.bundle form.now)) }
+    ensures { OnOk result (bindings.new ≡ with_names bindings.old (name_given form.now)
+        (binds scope.now.tables scope.now.bundle form.now)) }
 {
     match form {
         ClientLine::Let { name, ty, .. } | ClientLine::Text { name, ty, .. } => {
@@ -98,7 +100,8 @@ fn step(
     bindings: &mut Bindings,
     line: &Numbered<ClientLine>,
 ) -> Result<(), LoadFault>
-    ensures { Says (refusal_at line.now.line (broken scope.now.tables scope.now.bundle bindings.old line.now.form)) (λ _. bindings.new ≡ after scope.now.tables scope.now.bundle bindings.old line.now.form) result }
+    ensures { Says (refusal_at line.now.line (broken scope.now.tables scope.now.bundle bindings.old line.now.form))
+        (λ _. bindings.new ≡ after scope.now.tables scope.now.bundle bindings.old line.now.form) result }
 {
     if !keeps_kinds(scope, bindings, &line.form) {
         return Err(LoadFault::refused(line.line, 50));
@@ -127,7 +130,8 @@ fn put_command(
     form: &ClientLine,
     commands: &mut List<Command>,
 ) -> Result<(), LoadFault>
-    ensures { Says None (λ _. commands.new ≡ commands.old ++ commands_in scope.now.tables scope.now.bundle bindings.now.names form.now) result }
+    ensures { Says None (λ _. commands.new
+        ≡ commands.old ++ commands_in scope.now.tables scope.now.bundle bindings.now.names form.now) result }
 {
     let command = command_of(alloc, scope, bindings, form)?;
     push(commands, command)?;
@@ -140,7 +144,8 @@ pub fn check_script(
     scope: &Scope,
     script: &[Numbered<ClientLine>],
 ) -> Result<List<Command>, LoadFault>
-    ensures { Says (verdict scope.now.tables scope.now.bundle nothing script.now) (λ commands. commands ≡ commands_behind scope.now.tables scope.now.bundle nothing script.now) result }
+    ensures { Says (verdict scope.now.tables scope.now.bundle nothing script.now)
+        (λ commands. commands ≡ commands_behind scope.now.tables scope.now.bundle nothing script.now) result }
 {
     let mut bindings = Bindings::new(alloc);
     let mut commands = List::new(alloc);

@@ -67,7 +67,8 @@ fn put(targets: &mut Targets, name: &Name, of: u32) -> Result<(), AllocError>
 fn put_first(domains: &mut Targets, traits: &Names, form: &DomainLine) -> Result<(), AllocError>
     requires { begins_domain form.now ≡ true }
     ensures names { OnOk result (domains.new.names ≡ domains.old.names ++ domain_given form.now) }
-    ensures traits { OnOk result (domains.new.traits ≡ domains.old.traits ++ number_of (trait_of_form form.now []) traits.now ∷ []) }
+    ensures traits { OnOk result (domains.new.traits ≡ domains.old.traits
+        ++ number_of (trait_of_form form.now []) traits.now ∷ []) }
 {
     match form {
         DomainLine::Domain(name, has) => put(domains, name, traits.place(has).unwrap_or(0)),
@@ -83,7 +84,8 @@ fn put_domain(
 ) -> Result<(), AllocError>
     requires { IsOneDomain lines.now }
     ensures names { OnOk result (domains.new.names ≡ domains.old.names ++ names_of (given_by domain_given lines.now)) }
-    ensures traits { OnOk result (domains.new.traits ≡ domains.old.traits ++ number_of (trait_name lines.now) traits.now ∷ []) }
+    ensures traits { OnOk result (domains.new.traits ≡ domains.old.traits
+        ++ number_of (trait_name lines.now) traits.now ∷ []) }
 {
     match lines {
         [first, ..] => put_first(domains, traits, &first.form),
@@ -97,8 +99,10 @@ fn domains_of(
     traits: &Names,
     domains: &[CheckedDomain],
 ) -> Result<Targets, AllocError>
-    ensures names { IfOk result (λ t. t.names ≡ names_of (given_by domain_given (all_lines (map text_of domains.now)))) }
-    ensures traits { IfOk result (λ t. t.traits ≡ map (λ d. number_of (trait_name d.lines) traits.now) (map text_of domains.now)) }
+    ensures names { IfOk result (λ t. t.names
+        ≡ names_of (given_by domain_given (all_lines (map text_of domains.now)))) }
+    ensures traits { IfOk result (λ t. t.traits
+        ≡ map (λ d. number_of (trait_name d.lines) traits.now) (map text_of domains.now)) }
 {
     let mut targets = room_for(alloc, domains.len());
     'each: for domain in domains {
@@ -109,7 +113,8 @@ fn domains_of(
 
 fn put_load(loads: &mut Targets, domains: &Targets, form: &PlanLine) -> Result<(), AllocError>
     ensures names { OnOk result (loads.new.names ≡ loads.old.names ++ load_given form.now) }
-    ensures traits { OnOk result (loads.new.traits ≡ loads.old.traits ++ map (λ d. number_at domains.now.traits (place_of d domains.now.names)) (domains_loaded form.now)) }
+    ensures traits { OnOk result (loads.new.traits ≡ loads.old.traits
+        ++ map (λ d. number_at domains.now.traits (place_of d domains.now.names)) (domains_loaded form.now)) }
 {
     match form {
         PlanLine::Load { name, domain } => put(loads, name, domains.trait_of(domain)),
@@ -119,7 +124,8 @@ fn put_load(loads: &mut Targets, domains: &Targets, form: &PlanLine) -> Result<(
 
 fn put_shadow(shadows: &mut Targets, loads: &Targets, form: &PlanLine) -> Result<(), AllocError>
     ensures names { OnOk result (shadows.new.names ≡ shadows.old.names ++ shadow_given form.now) }
-    ensures traits { OnOk result (shadows.new.traits ≡ shadows.old.traits ++ map (λ d. number_at loads.now.traits (place_of d loads.now.names)) (shadows_loaded form.now)) }
+    ensures traits { OnOk result (shadows.new.traits ≡ shadows.old.traits
+        ++ map (λ d. number_at loads.now.traits (place_of d loads.now.names)) (shadows_loaded form.now)) }
 {
     match form {
         PlanLine::Shadow { name, load, .. } => put(shadows, name, loads.trait_of(load)),
@@ -130,7 +136,9 @@ fn put_shadow(shadows: &mut Targets, loads: &Targets, form: &PlanLine) -> Result
 // The loads, with the traits of their domains.
 fn loads_among(alloc: Global, domains: &Targets, plan: &Plan) -> Result<Targets, AllocError>
     ensures names { IfOk result (λ t. t.names ≡ names_of (given_by load_given plan.now.lines)) }
-    ensures traits { IfOk result (λ t. t.traits ≡ map (λ d. number_at domains.now.traits (place_of d domains.now.names)) (names_of (given_by domains_loaded plan.now.lines))) }
+    ensures traits { IfOk result (λ t. t.traits
+        ≡ map (λ d. number_at domains.now.traits (place_of d domains.now.names))
+        (names_of (given_by domains_loaded plan.now.lines))) }
 {
     let mut loads = room_for(alloc, 0);
     let lines = plan.lines.as_slice();
@@ -148,7 +156,8 @@ pub fn loads_of(
     plan: &Plan,
 ) -> Result<Targets, AllocError>
     ensures names { IfOk result (λ t. t.names ≡ names_of (given_by load_given plan.now.lines)) }
-    ensures traits { IfOk result (λ t. t.traits ≡ map (trait_in traits.now (map text_of domains.now)) (names_of (given_by domains_loaded plan.now.lines))) }
+    ensures traits { IfOk result (λ t. t.traits
+        ≡ map (trait_in traits.now (map text_of domains.now)) (names_of (given_by domains_loaded plan.now.lines))) }
 {
     let domains = domains_of(alloc, traits, domains.as_slice())?;
     loads_among(alloc, &domains, plan)
@@ -157,7 +166,9 @@ pub fn loads_of(
 /// The shadows of a plan, each with the trait of its load.
 pub fn shadows_of(alloc: Global, loads: &Targets, plan: &Plan) -> Result<Targets, AllocError>
     ensures names { IfOk result (λ t. t.names ≡ names_of (given_by shadow_given plan.now.lines)) }
-    ensures traits { IfOk result (λ t. t.traits ≡ map (λ d. number_at loads.now.traits (place_of d loads.now.names)) (names_of (given_by shadows_loaded plan.now.lines))) }
+    ensures traits { IfOk result (λ t. t.traits
+        ≡ map (λ d. number_at loads.now.traits (place_of d loads.now.names))
+        (names_of (given_by shadows_loaded plan.now.lines))) }
 {
     let mut shadows = room_for(alloc, 0);
     let lines = plan.lines.as_slice();

@@ -11,7 +11,7 @@ use Rattle.rl_defs.specs.declared.tables.TraitRow.{TraitRow}
 use Rattle.rl_defs.specs.declared.tables.Tables.{Tables}
 use Rattle.rl_defs.specs.Interfaces.{place_of, struct_names, trait_names}
 use Rattle.rl_defs.specs.BundleNames.{domain_lines}
-use Rattle.rl_defs.specs.NameRules.{structs_used, traits_used}
+use Rattle.rl_defs.specs.CodeNames.{structs_used, traits_used}
 use Rattle.rl_defs.proofs.Lists.{goes, all_of, contains_at, at_contained}
 use Rattle.valid_loads.proofs.Names.{declared_by, place_there}
 use Rattle.valid_loads.proofs.Rules.{Kept, declared}

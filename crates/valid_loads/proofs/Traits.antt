@@ -21,10 +21,9 @@ use Rattle.rl_defs.specs.Interfaces.{Lines as IdlLines, trait_name as idl_trait_
 use Rattle.rl_defs.specs.TypeRules.{AreStructRows}
 use Rattle.rl_defs.specs.MethodRules.{AreTraitRows}
 use Rattle.rl_defs.specs.Domains.{Lines, trait_name, trait_named, trait_of_form, method_of, method_in, lines_of_load, lines_of_row, domain_lines, load_of_target}
-use Rattle.rl_defs.specs.CodeNames.{trait_number, method_number, row_at, rows_of}
+use Rattle.rl_defs.specs.CodeNames.{trait_number, method_number, row_at, rows_of, traits_used}
 use Rattle.rl_defs.specs.CodeNames.{methods_of as methods_of_row}
 use Rattle.rl_defs.specs.DomainParts.{IsOneDomain}
-use Rattle.rl_defs.specs.NameRules.{traits_used}
 use Rattle.rl_defs.specs.BundleNames.{domain_lines as all_domain_lines, load_lines}
 use Rattle.rl_defs.specs.ScriptRules.{target_trait, method_of_call}
 use Rattle.rl_defs.specs.LoadOf.{load_of, target_number, method_number_of}

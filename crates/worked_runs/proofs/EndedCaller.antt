@@ -1,5 +1,5 @@
 -- The run of the caller that ends while its callee runs, step by step.
-use Rattle.std.proofs.Common.{ℕ, zero, suc, arith, List, [], ◌∷◌, Option, Some, refl, true, inr}
+use Rattle.std.proofs.Common.{ℕ, zero, suc, arith, List, [], ◌∷◌, Option, Some, refl, true}
 use Rattle.std.specs.Fmt.{digits}
 use Rattle.rl_defs.specs.declared.values.Value.{Value}
 use Rattle.rl_defs.specs.declared.values.Value.TheVariants as value
@@ -16,6 +16,7 @@ use Rattle.machine_defs.specs.Steps.{Step}
 use Rattle.worked_runs.specs.Parts.{thread, frame_at, quiet, freeing}
 use Rattle.worked_runs.specs.EndedCaller.{ended_caller, ended_caller_end, IsEndedCaller}
 use Rattle.worked_runs.proofs.Turns.{none_yet, goes_on, worked}
+use Rattle.worked_runs.proofs.Rows as rows
 
 -- the outer and the inner frame
 abbrev pub outer : ℕ → List (Option Value) → StackFrame
@@ -31,23 +32,7 @@ abbrev pub called : State
 called = call_entered 1 1 2 [] (outer 3 []) (with_thread first 1 (thread 9999 0 []))
 
 pub call : Step ended_caller first (quiet (entry.Call 1 1 2 2 0 [])) called
-call = record {
-  made = called;
-  enabled = refl;
-  makes = record {
-    charged = with_thread first 1 (thread 9999 0 []);
-    frame = outer 3 [];
-    wants = refl;
-    unrefused = refl;
-    into = refl;
-    lives = refl;
-    number = refl;
-    begins = record { is = refl; body = (refl, refl, refl) };
-    becomes = refl;
-  };
-  frees = refl;
-  swept = refl;
-}
+call = rows.enters (with_thread first 1 (thread 9999 0 [])) 3 refl refl refl refl refl refl refl refl refl refl refl
 
 -- while the inner call runs the outer frame stands at its call
 abbrev pub charged : State
@@ -57,65 +42,19 @@ abbrev pub called_inner : State
 called_inner = call_entered 1 2 1 [] (inner 2 []) charged
 
 pub call_inner : Step ended_caller called (quiet (entry.Call 1 2 1 1 0 [])) called_inner
-call_inner = record {
-  made = called_inner;
-  enabled = refl;
-  makes = record {
-    charged = charged;
-    frame = inner 2 [];
-    wants = refl;
-    unrefused = refl;
-    into = refl;
-    lives = refl;
-    number = refl;
-    begins = record { is = refl; body = (refl, refl, refl) };
-    becomes = refl;
-  };
-  frees = refl;
-  swept = refl;
-}
+call_inner = rows.enters charged 2 refl refl refl refl refl refl refl refl refl refl refl
 
 abbrev pub killed : State
 killed = ended 2 (with_thread called_inner 2 (thread 9999 1 []))
 
 pub kill : Step ended_caller called_inner (quiet (entry.Kill 2 2)) killed
-kill = record {
-  made = killed;
-  enabled = refl;
-  makes = record { thread = thread 0 0 []; target = 2; of = refl; wants = refl; inside = refl; becomes = refl };
-  frees = refl;
-  swept = refl;
-}
+kill = rows.kills (thread 0 0 []) 2 refl refl refl refl refl refl refl
 
 abbrev pub made_object : State
 made_object = with_new ended_caller 0 (owner.Instance 1) [] (with_top 1 (inner 3 (Some (value.Obj 1) ∷ [])) (with_thread killed 1 (thread 9996 0 [])))
 
 new : Step ended_caller killed (quiet (entry.New 1 (owner.Instance 1) 1 0 [])) made_object
-new = record {
-  made = made_object;
-  enabled = refl;
-  makes = record {
-    number = refl;
-    makes = inr (record {
-      inside = 1;
-      mine = refl;
-      blank = refl;
-      does = record {
-        thread = thread 9997 0 [];
-        fuel = 9997;
-        frame = inner 2 [];
-        after = inner 3 (Some (value.Obj 1) ∷ []);
-        of = refl;
-        wants = refl;
-        inside = refl;
-        answers = refl;
-        becomes = refl;
-      };
-    });
-  };
-  frees = refl;
-  swept = refl;
-}
+new = rows.makes_own (thread 9997 0 []) 9997 (inner 2 []) (inner 3 (Some (value.Obj 1) ∷ [])) refl refl refl refl refl refl refl refl refl
 
 abbrev pub returned : State
 returned = after_return 1 9996 (thread 9996 0 []) (value.Obj 1 ∷ []) made_object
@@ -144,27 +83,17 @@ abbrev pub killer_done : State
 killer_done = with_thread without_the_object 2 (record (thread 9999 1 []) { done = true })
 
 ends_killer : Step ended_caller without_the_object (quiet (entry.Done 2)) killer_done
-ends_killer = record { made = killer_done; enabled = refl; makes = record { thread = thread 9999 1 []; of = refl; wants = refl; becomes = refl }; frees = refl; swept = refl }
+ends_killer = rows.finishes _ refl refl refl refl refl refl
 
 abbrev pub unwound : State
 unwound = with_thread (popped 1 killer_done) 1 (thread 9995 1 [])
 
 unwinds : Step ended_caller killer_done (quiet (entry.Unwound 1 1)) unwound
-unwinds = record {
-  made = unwound;
-  enabled = refl;
-  makes = record {
-    frame = outer 4 (Some (value.Cap 1) ∷ []);
-    of = record { on_top = refl; dead = refl; call = refl };
-    over = refl;
-    replies = record { thread = thread 9995 0 []; of = refl; becomes = refl };
-  };
-  frees = refl;
-  swept = refl;
-}
+unwinds =
+    rows.unwinds (outer 4 (Some (value.Cap 1) ∷ [])) refl refl refl refl refl (record { thread = thread 9995 0 []; of = refl; becomes = refl }) refl refl
 
 ends_caller : Step ended_caller unwound (quiet (entry.Done 1)) ended_caller_end
-ends_caller = record { made = ended_caller_end; enabled = refl; makes = record { thread = thread 9995 1 []; of = refl; wants = refl; becomes = refl }; frees = refl; swept = refl }
+ends_caller = rows.finishes _ refl refl refl refl refl refl
 
 done : AllDone ended_caller_end
 done zero d lt = refl

@@ -1,5 +1,5 @@
 -- The run of the driver that is killed in a read, step by step.
-use Rattle.std.proofs.Common.{ℕ, zero, suc, arith, List, [], ◌∷◌, Option, Some, None, refl, true, inr}
+use Rattle.std.proofs.Common.{ℕ, zero, suc, arith, List, [], ◌∷◌, Option, Some, None, refl, true}
 use Rattle.std.specs.Fmt.{digits}
 use Rattle.machine_defs.specs.declared.values.Arg.TheVariants as arg
 use Rattle.rl_defs.specs.declared.values.Value.{Value}
@@ -18,6 +18,7 @@ use Rattle.machine_defs.specs.Steps.{Step}
 use Rattle.worked_runs.specs.Parts.{thread, frame_at, quiet, freeing}
 use Rattle.worked_runs.specs.KilledInARead.{killed_in_a_read, killed_in_a_read_end, IsKilledInARead}
 use Rattle.worked_runs.proofs.Turns.{none_yet, goes_on, worked}
+use Rattle.worked_runs.proofs.Rows as rows
 
 -- the reader's thread, whose name holds nothing yet, and the frame of its call, in an instance and at a line
 abbrev pub reader : ℕ → Thread
@@ -33,53 +34,13 @@ abbrev pub called : State
 called = call_entered 1 1 1 (arg.Num 0 ∷ []) (read_frame 1 6 []) (with_thread first 1 (reader 9999))
 
 call : Step killed_in_a_read first (quiet (entry.Call 1 1 2 1 1 (arg.Num 0 ∷ []))) called
-call = record {
-  made = called;
-  enabled = refl;
-  makes = record {
-    charged = with_thread first 1 (reader 9999);
-    frame = read_frame 1 6 [];
-    wants = refl;
-    unrefused = refl;
-    into = refl;
-    lives = refl;
-    number = refl;
-    begins = record { is = refl; body = (refl, refl, refl) };
-    becomes = refl;
-  };
-  frees = refl;
-  swept = refl;
-}
+call = rows.enters (with_thread first 1 (reader 9999)) 6 refl refl refl refl refl refl refl refl refl refl refl
 
 abbrev pub made_block : State
 made_block = with_new killed_in_a_read 0 (owner.Instance 1) [] (with_top 1 (read_frame 1 7 (Some (value.Obj 1) ∷ [])) (with_thread called 1 (reader 9998)))
 
 new : Step killed_in_a_read called (quiet (entry.New 1 (owner.Instance 1) 1 0 [])) made_block
-new = record {
-  made = made_block;
-  enabled = refl;
-  makes = record {
-    number = refl;
-    makes = inr (record {
-      inside = 1;
-      mine = refl;
-      blank = refl;
-      does = record {
-        thread = reader 9999;
-        fuel = 9999;
-        frame = read_frame 1 6 [];
-        after = read_frame 1 7 (Some (value.Obj 1) ∷ []);
-        of = refl;
-        wants = refl;
-        inside = refl;
-        answers = refl;
-        becomes = refl;
-      };
-    });
-  };
-  frees = refl;
-  swept = refl;
-}
+new = rows.makes_own (reader 9999) 9999 (read_frame 1 6 []) (read_frame 1 7 (Some (value.Obj 1) ∷ [])) refl refl refl refl refl refl refl refl refl
 
 abbrev pub killed : State
 killed = ended 1 (with_thread made_block 2 (thread 9999 1 []))
@@ -100,133 +61,43 @@ abbrev pub loaded : State
 loaded = reloaded killed_in_a_read 2 2 0 without_the_block
 
 reload : Step killed_in_a_read without_the_block (quiet (entry.Reload 1 2 2 0)) loaded
-reload = record {
-  made = loaded;
-  enabled = refl;
-  makes = record {
-    shadow = record { current = 1; left = 1 };
-    of = refl;
-    dead = refl;
-    restarts = refl;
-    needed = inr (record { frame = read_frame 1 7 (Some (value.Obj 1) ∷ []); on_top = refl; dead = refl; reissuable = refl; target = refl });
-    number = refl;
-    becomes = refl;
-  };
-  frees = refl;
-  swept = refl;
-}
+reload =
+    rows.reloads_for (record { current = 1; left = 1 }) (read_frame 1 7 (Some (value.Obj 1) ∷ [])) refl refl refl refl refl refl refl refl refl refl refl refl
 
 abbrev pub issued : State
 issued = with_top 1 (read_frame 2 6 []) loaded
 
 again : Step killed_in_a_read loaded (quiet (entry.Again 1 1 2 2)) issued
-again = record {
-  made = issued;
-  enabled = refl;
-  makes = record {
-    dead = read_frame 1 7 (Some (value.Obj 1) ∷ []);
-    frame = read_frame 2 6 [];
-    of = record { on_top = refl; dead = refl; call = refl };
-    through = refl;
-    reissuable = refl;
-    into = refl;
-    lives = refl;
-    begins = record { is = refl; body = (refl, refl, refl) };
-    becomes = refl;
-  };
-  frees = refl;
-  swept = refl;
-}
+again = rows.issues_again (read_frame 1 7 (Some (value.Obj 1) ∷ [])) 6 refl refl refl refl refl refl refl refl refl refl refl refl refl
 
 abbrev pub killer_done : State
 killer_done = with_thread issued 2 (record (thread 9999 1 []) { done = true })
 
 ends_killer : Step killed_in_a_read issued (quiet (entry.Done 2)) killer_done
-ends_killer = record { made = killer_done; enabled = refl; makes = record { thread = thread 9999 1 []; of = refl; wants = refl; becomes = refl }; frees = refl; swept = refl }
+ends_killer = rows.finishes _ refl refl refl refl refl refl
 
 abbrev pub made_another : State
 made_another = with_new killed_in_a_read 0 (owner.Instance 2) [] (with_top 1 (read_frame 2 7 (Some (value.Obj 2) ∷ [])) (with_thread killer_done 1 (reader 9997)))
 
 new_another : Step killed_in_a_read killer_done (quiet (entry.New 1 (owner.Instance 2) 2 0 [])) made_another
-new_another = record {
-  made = made_another;
-  enabled = refl;
-  makes = record {
-    number = refl;
-    makes = inr (record {
-      inside = 2;
-      mine = refl;
-      blank = refl;
-      does = record {
-        thread = reader 9998;
-        fuel = 9998;
-        frame = read_frame 2 6 [];
-        after = read_frame 2 7 (Some (value.Obj 2) ∷ []);
-        of = refl;
-        wants = refl;
-        inside = refl;
-        answers = refl;
-        becomes = refl;
-      };
-    });
-  };
-  frees = refl;
-  swept = refl;
-}
+new_another =
+    rows.makes_own (reader 9998) 9998 (read_frame 2 6 []) (read_frame 2 7 (Some (value.Obj 2) ∷ [])) refl refl refl refl refl refl refl refl refl
 
 abbrev pub filled : State
 filled = with_cells_of 2 (instead (block made_another 0)) (with_top 1 (read_frame 2 8 (Some (value.Obj 2) ∷ [])) (with_thread made_another 1 (reader 9996)))
 
 fills : Step killed_in_a_read made_another (quiet (entry.DevGet 1 2 0)) filled
-fills = record {
-  made = filled;
-  enabled = refl;
-  makes = (
-    2,
-    record {
-      thread = reader 9997;
-      fuel = 9997;
-      frame = read_frame 2 7 (Some (value.Obj 2) ∷ []);
-      after = read_frame 2 8 (Some (value.Obj 2) ∷ []);
-      of = refl;
-      wants = refl;
-      inside = refl;
-      answers = refl;
-      becomes = refl;
-    },
-  );
-  frees = refl;
-  swept = refl;
-}
+fills = rows.quietly refl (2, rows.acts (reader 9997) 9997 _ (read_frame 2 8 (Some (value.Obj 2) ∷ [])) refl refl refl refl refl) refl refl
 
 abbrev pub returned : State
 returned = with_thread (after_return 1 9996 (reader 9996) (value.Obj 2 ∷ []) filled) 1 (thread 9995 1 (Some (value.Obj 2) ∷ []))
 
 returns : Step killed_in_a_read filled (quiet (entry.Ret 1 1 (value.Obj 2 ∷ []))) returned
-returns = record {
-  made = returned;
-  enabled = refl;
-  makes = record {
-    thread = reader 9996;
-    fuel = 9996;
-    frame = read_frame 2 8 (Some (value.Obj 2) ∷ []);
-    of = refl;
-    wants = refl;
-    call = refl;
-    replies = record { thread = reader 9995; of = refl; becomes = refl };
-  };
-  frees = refl;
-  swept = refl;
-}
+returns =
+    rows.returns (reader 9996) 9996 (read_frame 2 8 (Some (value.Obj 2) ∷ [])) refl refl refl refl (record { thread = reader 9995; of = refl; becomes = refl }) refl refl
 
 ends_reader : Step killed_in_a_read returned (quiet (entry.Done 1)) killed_in_a_read_end
-ends_reader = record {
-  made = killed_in_a_read_end;
-  enabled = refl;
-  makes = record { thread = thread 9995 1 (Some (value.Obj 2) ∷ []); of = refl; wants = refl; becomes = refl };
-  frees = refl;
-  swept = refl;
-}
+ends_reader = rows.finishes _ refl refl refl refl refl refl
 
 done : AllDone killed_in_a_read_end
 done zero d lt = refl

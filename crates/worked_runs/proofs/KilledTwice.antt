@@ -1,5 +1,5 @@
 -- The run of the driver that is killed twice, step by step.
-use Rattle.std.proofs.Common.{ℕ, zero, suc, arith, [], refl, true, inr}
+use Rattle.std.proofs.Common.{ℕ, zero, suc, arith, [], refl, true}
 use Rattle.std.specs.Fmt.{digits}
 use Rattle.machine_defs.specs.declared.values.RpcCode.TheVariants as code
 use Rattle.machine_defs.specs.declared.entry.Entry.TheVariants as entry
@@ -12,6 +12,7 @@ use Rattle.machine_defs.specs.Steps.{Step}
 use Rattle.worked_runs.specs.Parts.{thread, frame_at, quiet}
 use Rattle.worked_runs.specs.KilledTwice.{killed_twice, killed_twice_end, IsKilledTwice}
 use Rattle.worked_runs.proofs.Turns.{none_yet, goes_on, worked}
+use Rattle.worked_runs.proofs.Rows as rows
 
 abbrev pub size_frame : ℕ → ℕ → StackFrame
 size_frame c i = frame_at c 2 i 0 [] 2 []
@@ -23,200 +24,78 @@ abbrev pub called : State
 called = call_entered 1 1 1 [] (size_frame 1 1) (with_thread first 1 (thread 9999 0 []))
 
 call : Step killed_twice first (quiet (entry.Call 1 1 2 1 0 [])) called
-call = record {
-  made = called;
-  enabled = refl;
-  makes = record {
-    charged = with_thread first 1 (thread 9999 0 []);
-    frame = size_frame 1 1;
-    wants = refl;
-    unrefused = refl;
-    into = refl;
-    lives = refl;
-    number = refl;
-    begins = record { is = refl; body = (refl, refl, refl) };
-    becomes = refl;
-  };
-  frees = refl;
-  swept = refl;
-}
+call = rows.enters (with_thread first 1 (thread 9999 0 [])) 2 refl refl refl refl refl refl refl refl refl refl refl
 
 abbrev pub called_too : State
 called_too = call_entered 2 2 1 [] (size_frame 2 1) (with_thread called 2 (thread 9999 0 []))
 
 call_too : Step killed_twice called (quiet (entry.Call 2 2 2 1 0 [])) called_too
-call_too = record {
-  made = called_too;
-  enabled = refl;
-  makes = record {
-    charged = with_thread called 2 (thread 9999 0 []);
-    frame = size_frame 2 1;
-    wants = refl;
-    unrefused = refl;
-    into = refl;
-    lives = refl;
-    number = refl;
-    begins = record { is = refl; body = (refl, refl, refl) };
-    becomes = refl;
-  };
-  frees = refl;
-  swept = refl;
-}
+call_too = rows.enters (with_thread called 2 (thread 9999 0 [])) 2 refl refl refl refl refl refl refl refl refl refl refl
 
 abbrev pub killed : State
 killed = ended 1 (with_thread called_too 3 (thread 9999 1 []))
 
 kill : Step killed_twice called_too (quiet (entry.Kill 3 1)) killed
-kill = record {
-  made = killed;
-  enabled = refl;
-  makes = record { thread = thread 0 0 []; target = 2; of = refl; wants = refl; inside = refl; becomes = refl };
-  frees = refl;
-  swept = refl;
-}
+kill = rows.kills (thread 0 0 []) 2 refl refl refl refl refl refl refl
 
 abbrev pub loaded : State
 loaded = reloaded killed_twice 2 2 0 killed
 
 reload : Step killed_twice killed (quiet (entry.Reload 1 2 2 0)) loaded
-reload = record {
-  made = loaded;
-  enabled = refl;
-  makes = record {
-    shadow = record { current = 1; left = 1 };
-    of = refl;
-    dead = refl;
-    restarts = refl;
-    needed = inr (record { frame = size_frame 1 1; on_top = refl; dead = refl; reissuable = refl; target = refl });
-    number = refl;
-    becomes = refl;
-  };
-  frees = refl;
-  swept = refl;
-}
+reload = rows.reloads_for (record { current = 1; left = 1 }) (size_frame 1 1) refl refl refl refl refl refl refl refl refl refl refl refl
 
 abbrev pub issued : State
 issued = with_top 1 (size_frame 1 2) loaded
 
 again : Step killed_twice loaded (quiet (entry.Again 1 1 2 2)) issued
-again = record {
-  made = issued;
-  enabled = refl;
-  makes = record {
-    dead = size_frame 1 1;
-    frame = size_frame 1 2;
-    of = record { on_top = refl; dead = refl; call = refl };
-    through = refl;
-    reissuable = refl;
-    into = refl;
-    lives = refl;
-    begins = record { is = refl; body = (refl, refl, refl) };
-    becomes = refl;
-  };
-  frees = refl;
-  swept = refl;
-}
+again = rows.issues_again (size_frame 1 1) 2 refl refl refl refl refl refl refl refl refl refl refl refl refl
 
 abbrev pub issued_too : State
 issued_too = with_top 2 (size_frame 2 2) issued
 
 again_too : Step killed_twice issued (quiet (entry.Again 2 2 2 2)) issued_too
-again_too = record {
-  made = issued_too;
-  enabled = refl;
-  makes = record {
-    dead = size_frame 2 1;
-    frame = size_frame 2 2;
-    of = record { on_top = refl; dead = refl; call = refl };
-    through = refl;
-    reissuable = refl;
-    into = refl;
-    lives = refl;
-    begins = record { is = refl; body = (refl, refl, refl) };
-    becomes = refl;
-  };
-  frees = refl;
-  swept = refl;
-}
+again_too = rows.issues_again (size_frame 2 1) 2 refl refl refl refl refl refl refl refl refl refl refl refl refl
 
 abbrev pub killed_again : State
 killed_again = ended 2 (with_thread issued_too 3 (thread 9999 2 []))
 
 kill_again : Step killed_twice issued_too (quiet (entry.Kill 3 2)) killed_again
-kill_again = record {
-  made = killed_again;
-  enabled = refl;
-  makes = record { thread = thread 9999 1 []; target = 2; of = refl; wants = refl; inside = refl; becomes = refl };
-  frees = refl;
-  swept = refl;
-}
+kill_again = rows.kills (thread 9999 1 []) 2 refl refl refl refl refl refl refl
 
 abbrev pub unwound : State
 unwound = with_thread (popped 1 killed_again) 1 (thread 9999 1 [])
 
 unwinds : Step killed_twice killed_again (quiet (entry.Unwound 1 1)) unwound
-unwinds = record {
-  made = unwound;
-  enabled = refl;
-  makes = record {
-    frame = size_frame 1 2;
-    of = record { on_top = refl; dead = refl; call = refl };
-    over = refl;
-    replies = record { thread = thread 9999 0 []; of = refl; becomes = refl };
-  };
-  frees = refl;
-  swept = refl;
-}
+unwinds = rows.unwinds (size_frame 1 2) refl refl refl refl refl (record { thread = thread 9999 0 []; of = refl; becomes = refl }) refl refl
 
 abbrev pub one_done : State
 one_done = with_thread unwound 1 (record (thread 9999 1 []) { done = true })
 
 ends_one : Step killed_twice unwound (quiet (entry.Done 1)) one_done
-ends_one = record { made = one_done; enabled = refl; makes = record { thread = thread 9999 1 []; of = refl; wants = refl; becomes = refl }; frees = refl; swept = refl }
+ends_one = rows.finishes _ refl refl refl refl refl refl
 
 abbrev pub unwound_too : State
 unwound_too = with_thread (popped 2 one_done) 2 (thread 9999 1 [])
 
 unwinds_too : Step killed_twice one_done (quiet (entry.Unwound 2 2)) unwound_too
-unwinds_too = record {
-  made = unwound_too;
-  enabled = refl;
-  makes = record {
-    frame = size_frame 2 2;
-    of = record { on_top = refl; dead = refl; call = refl };
-    over = refl;
-    replies = record { thread = thread 9999 0 []; of = refl; becomes = refl };
-  };
-  frees = refl;
-  swept = refl;
-}
+unwinds_too = rows.unwinds (size_frame 2 2) refl refl refl refl refl (record { thread = thread 9999 0 []; of = refl; becomes = refl }) refl refl
 
 abbrev pub refused : State
 refused = with_thread (numbered 3 unwound_too) 3 (thread 9999 3 [])
 
 refuses : Step killed_twice unwound_too (quiet (entry.Refuse 3 3 code.Gone 2 0 [])) refused
-refuses = record {
-  made = refused;
-  enabled = refl;
-  makes = record {
-    charged = with_thread unwound_too 3 (thread 9999 2 []);
-    wants = refl;
-    refused = refl;
-    number = refl;
-    replies = record { thread = thread 9999 2 []; of = refl; becomes = refl };
-  };
-  frees = refl;
-  swept = refl;
-}
+refuses = rows.quietly refl
+    (record { charged = with_thread unwound_too 3 (thread 9999 2 []); wants = refl; refused = refl; number = refl; replies = record { thread = thread 9999 2 []; of = refl; becomes = refl } })
+    refl refl
 
 abbrev pub two_done : State
 two_done = with_thread refused 2 (record (thread 9999 1 []) { done = true })
 
 ends_two : Step killed_twice refused (quiet (entry.Done 2)) two_done
-ends_two = record { made = two_done; enabled = refl; makes = record { thread = thread 9999 1 []; of = refl; wants = refl; becomes = refl }; frees = refl; swept = refl }
+ends_two = rows.finishes _ refl refl refl refl refl refl
 
 ends_three : Step killed_twice two_done (quiet (entry.Done 3)) killed_twice_end
-ends_three = record { made = killed_twice_end; enabled = refl; makes = record { thread = thread 9999 3 []; of = refl; wants = refl; becomes = refl }; frees = refl; swept = refl }
+ends_three = rows.finishes _ refl refl refl refl refl refl
 
 done : AllDone killed_twice_end
 done zero d lt = refl

@@ -1,5 +1,5 @@
 -- The object whose owner is killed while it is lent, step by step.
-use Rattle.std.proofs.Common.{ℕ, zero, suc, arith, List, [], ◌∷◌, refl, inr, Option, Some, true}
+use Rattle.std.proofs.Common.{ℕ, zero, suc, arith, List, [], ◌∷◌, refl, Option, Some, true}
 use Rattle.std.specs.Fmt.{digits}
 use Rattle.rl_defs.specs.declared.values.Value.{Value}
 use Rattle.rl_defs.specs.declared.values.Value.TheVariants as value
@@ -18,6 +18,7 @@ use Rattle.machine_defs.specs.Steps.{Step}
 use Rattle.worked_runs.specs.Parts.{thread, frame_at, quiet, freeing}
 use Rattle.worked_runs.specs.LentWhileKilled.{lent_load, lent_end, IsLentWhileKilled}
 use Rattle.worked_runs.proofs.Turns.{none_yet, goes_on, worked}
+use Rattle.worked_runs.proofs.Rows as rows
 
 abbrev object : Option Value
 object = Some (value.Obj 1)
@@ -49,124 +50,43 @@ abbrev pub called : State
 called = call_entered 1 1 3 [] (owning 3 []) (with_thread before 1 (thread 9999 0 []))
 
 pub calls : Step lent_load before (quiet (entry.Call 1 1 3 3 0 [])) called
-calls = record {
-  made = called;
-  enabled = refl;
-  makes = record {
-    charged = _;
-    frame = owning 3 [];
-    wants = refl;
-    unrefused = refl;
-    into = refl;
-    lives = refl;
-    number = refl;
-    begins = record { is = refl; body = (refl, refl, refl) };
-    becomes = refl;
-  };
-  frees = refl;
-  swept = refl;
-}
+calls = rows.enters _ 3 refl refl refl refl refl refl refl refl refl refl refl
 
 -- the called instance makes an object
 abbrev pub made : State
 made = with_new lent_load 0 (owner.Instance 3) [] (with_top 1 (owning 4 (object ∷ [])) (with_thread called 1 (thread 9998 0 [])))
 
 pub makes : Step lent_load called (quiet (entry.New 1 (owner.Instance 3) 1 0 [])) made
-makes = record {
-  made = made;
-  enabled = refl;
-  makes = record {
-    number = refl;
-    makes = inr (record {
-      inside = 3;
-      mine = refl;
-      blank = refl;
-      does = record { thread = thread 9999 0 []; fuel = 9999; frame = _; after = owning 4 (object ∷ []); of = refl; wants = refl; inside = refl; answers = refl; becomes = refl };
-    });
-  };
-  frees = refl;
-  swept = refl;
-}
+makes = rows.makes_own (thread 9999 0 []) 9999 _ (owning 4 (object ∷ [])) refl refl refl refl refl refl refl refl refl
 
 -- it lends the object
 abbrev pub lent : State
 lent = call_entered 1 2 2 its_loan (lending 3 (object ∷ [])) (with_top 1 (owning 5 (object ∷ target 2 ∷ [])) (with_thread made 1 (thread 9996 0 [])))
 
 pub lends : Step lent_load made (quiet (entry.Call 1 2 2 2 0 its_loan)) lent
-lends = record {
-  made = lent;
-  enabled = refl;
-  makes = record {
-    charged = _;
-    frame = lending 3 (object ∷ []);
-    wants = refl;
-    unrefused = refl;
-    into = refl;
-    lives = refl;
-    number = refl;
-    begins = record { is = refl; body = (refl, refl, refl) };
-    becomes = refl;
-  };
-  frees = refl;
-  swept = refl;
-}
+lends = rows.enters _ 3 refl refl refl refl refl refl refl refl refl refl refl
 
 -- client y kills it; nothing is freed, since the object is lent
 abbrev pub killed : State
 killed = ended 3 (with_thread lent 2 (command_done lent_load 2 [] (thread 0 0 [])))
 
 pub kills : Step lent_load lent (quiet (entry.Kill 2 3)) killed
-kills = record {
-  made = killed;
-  enabled = refl;
-  makes = record { thread = thread 0 0 []; target = 3; of = refl; wants = refl; inside = refl; becomes = refl };
-  frees = refl;
-  swept = refl;
-}
+kills = rows.kills (thread 0 0 []) 3 refl refl refl refl refl refl refl
 
 -- the object is lent on
 abbrev pub lent_on : State
 lent_on = call_entered 1 3 1 its_loan (reading 2 (object ∷ [])) (with_top 1 (lending 4 (object ∷ target 1 ∷ [])) (with_thread killed 1 (thread 9994 0 [])))
 
 pub lends_on : Step lent_load killed (quiet (entry.Call 1 3 1 1 0 its_loan)) lent_on
-lends_on = record {
-  made = lent_on;
-  enabled = refl;
-  makes = record {
-    charged = _;
-    frame = reading 2 (object ∷ []);
-    wants = refl;
-    unrefused = refl;
-    into = refl;
-    lives = refl;
-    number = refl;
-    begins = record { is = refl; body = (refl, refl, refl) };
-    becomes = refl;
-  };
-  frees = refl;
-  swept = refl;
-}
+lends_on = rows.enters _ 2 refl refl refl refl refl refl refl refl refl refl refl
 
 -- its cell was read, by two instructions, and is returned
 abbrev pub read : State
 read = with_top 1 (lending 5 (object ∷ target 1 ∷ Some (value.Num 0) ∷ [])) (after_return 1 9992 (thread 9994 0 []) zero_back lent_on)
 
 pub reads : Step lent_load lent_on (quiet (entry.Ret 1 3 zero_back)) read
-reads = record {
-  made = read;
-  enabled = refl;
-  makes = record {
-    thread = thread 9994 0 [];
-    fuel = 9992;
-    frame = _;
-    of = refl;
-    wants = refl;
-    call = refl;
-    replies = record { frame = lending 5 (object ∷ target 1 ∷ Some (value.Num 0) ∷ []); answers = refl; becomes = refl };
-  };
-  frees = refl;
-  swept = refl;
-}
+reads =
+    rows.returns (thread 9994 0 []) 9992 _ refl refl refl refl (record { frame = lending 5 (object ∷ target 1 ∷ Some (value.Num 0) ∷ []); answers = refl; becomes = refl }) refl refl
 
 -- the last loan ends, and the object is freed; the caller is of an ended instance, and gets nothing
 abbrev pub unlent : State
@@ -189,41 +109,19 @@ abbrev half_done : State
 half_done = with_thread freed 2 (record (thread 9999 1 []) { done = true })
 
 ends_second : Step lent_load freed (quiet (entry.Done 2)) half_done
-ends_second = record {
-  made = half_done;
-  enabled = refl;
-  makes = record { thread = thread 9999 1 []; of = refl; wants = refl; becomes = refl };
-  frees = refl;
-  swept = refl;
-}
+ends_second = rows.finishes _ refl refl refl refl refl refl
 
 -- the call of client x is unwound
 abbrev unwound : State
 unwound = with_thread (popped 1 half_done) 1 (thread 9990 1 [])
 
 unwinds : Step lent_load half_done (quiet (entry.Unwound 1 1)) unwound
-unwinds = record {
-  made = unwound;
-  enabled = refl;
-  makes = record {
-    frame = owning 5 (object ∷ target 2 ∷ []);
-    of = record { on_top = refl; dead = refl; call = refl };
-    over = refl;
-    replies = record { thread = thread 9990 0 []; of = refl; becomes = refl };
-  };
-  frees = refl;
-  swept = refl;
-}
+unwinds =
+    rows.unwinds (owning 5 (object ∷ target 2 ∷ [])) refl refl refl refl refl (record { thread = thread 9990 0 []; of = refl; becomes = refl }) refl refl
 
 -- and its script has ended
 ends_first : Step lent_load unwound (quiet (entry.Done 1)) lent_end
-ends_first = record {
-  made = lent_end;
-  enabled = refl;
-  makes = record { thread = thread 9990 1 []; of = refl; wants = refl; becomes = refl };
-  frees = refl;
-  swept = refl;
-}
+ends_first = rows.finishes _ refl refl refl refl refl refl
 
 done : AllDone lent_end
 done zero d lt = refl

@@ -6,6 +6,7 @@ pub mod HungAndDropped
 pub mod TrapOverHung
 pub mod Turns
 pub mod Rows
+pub mod HungSoFar
 pub mod KilledTwice
 pub mod KilledInARead
 pub mod EndedCaller

@@ -14,6 +14,7 @@ use Rattle.machine_defs.specs.Steps.{Step}
 use Rattle.worked_runs.specs.Parts.{thread, frame_at, quiet}
 use Rattle.worked_runs.specs.OppositeOrders.{opposite_orders, opposite_orders_end, IsOppositeOrders}
 use Rattle.worked_runs.proofs.Turns.{none_yet, goes_on, worked}
+use Rattle.worked_runs.proofs.Rows as rows
 
 -- the frames of `go`: x's call of q with p, and y's call of p with q; and that of x's call of `leaf` in p
 abbrev pub x_go : ℕ → List (Option Value) → StackFrame
@@ -32,45 +33,13 @@ abbrev pub x_called : State
 x_called = call_entered 1 1 2 (arg.Cap 1 ∷ []) (x_go 2 (Some (value.Cap 1) ∷ [])) (with_thread first 1 (thread 9999 0 []))
 
 x_calls : Step opposite_orders first (quiet (entry.Call 1 1 2 2 0 (arg.Cap 1 ∷ []))) x_called
-x_calls = record {
-  made = x_called;
-  enabled = refl;
-  makes = record {
-    charged = with_thread first 1 (thread 9999 0 []);
-    frame = x_go 2 (Some (value.Cap 1) ∷ []);
-    wants = refl;
-    unrefused = refl;
-    into = refl;
-    lives = refl;
-    number = refl;
-    begins = record { is = refl; body = (refl, refl, refl) };
-    becomes = refl;
-  };
-  frees = refl;
-  swept = refl;
-}
+x_calls = rows.enters (with_thread first 1 (thread 9999 0 [])) 2 refl refl refl refl refl refl refl refl refl refl refl
 
 abbrev pub y_called : State
 y_called = call_entered 2 2 1 (arg.Cap 2 ∷ []) (y_go 2 (Some (value.Cap 2) ∷ [])) (with_thread x_called 2 (thread 9999 0 []))
 
 y_calls : Step opposite_orders x_called (quiet (entry.Call 2 2 1 1 0 (arg.Cap 2 ∷ []))) y_called
-y_calls = record {
-  made = y_called;
-  enabled = refl;
-  makes = record {
-    charged = with_thread x_called 2 (thread 9999 0 []);
-    frame = y_go 2 (Some (value.Cap 2) ∷ []);
-    wants = refl;
-    unrefused = refl;
-    into = refl;
-    lives = refl;
-    number = refl;
-    begins = record { is = refl; body = (refl, refl, refl) };
-    becomes = refl;
-  };
-  frees = refl;
-  swept = refl;
-}
+y_calls = rows.enters (with_thread x_called 2 (thread 9999 0 [])) 2 refl refl refl refl refl refl refl refl refl refl refl
 
 -- y is in p, and may not enter q, whose rank is above p's: it goes on at its label with the code
 abbrev pub charged : State
@@ -80,39 +49,16 @@ abbrev pub refused : State
 refused = with_top 2 (y_go 5 (None ∷ None ∷ Some (value.Num 4) ∷ [])) (numbered 3 charged)
 
 refuses : Step opposite_orders y_called (quiet (entry.Refuse 2 3 code.Order 2 1 [])) refused
-refuses = record {
-  made = refused;
-  enabled = refl;
-  makes = record {
-    charged = charged;
-    wants = refl;
-    refused = refl;
-    number = refl;
-    replies = record { frame = y_go 5 (None ∷ None ∷ Some (value.Num 4) ∷ []); answers = refl; becomes = refl };
-  };
-  frees = refl;
-  swept = refl;
-}
+refuses = rows.quietly refl
+    (record { charged = charged; wants = refl; refused = refl; number = refl; replies = record { frame = y_go 5 (None ∷ None ∷ Some (value.Num 4) ∷ []); answers = refl; becomes = refl } })
+    refl refl
 
 abbrev pub y_returned : State
 y_returned = with_thread (after_return 2 9998 (thread 9998 0 []) (value.Num 4 ∷ []) refused) 2 (thread 9997 1 [])
 
 y_returns : Step opposite_orders refused (quiet (entry.Ret 2 2 (value.Num 4 ∷ []))) y_returned
-y_returns = record {
-  made = y_returned;
-  enabled = refl;
-  makes = record {
-    thread = thread 9998 0 [];
-    fuel = 9998;
-    frame = y_go 5 (None ∷ None ∷ Some (value.Num 4) ∷ []);
-    of = refl;
-    wants = refl;
-    call = refl;
-    replies = record { thread = thread 9997 0 []; of = refl; becomes = refl };
-  };
-  frees = refl;
-  swept = refl;
-}
+y_returns =
+    rows.returns (thread 9998 0 []) 9998 (y_go 5 (None ∷ None ∷ Some (value.Num 4) ∷ [])) refl refl refl refl (record { thread = thread 9997 0 []; of = refl; becomes = refl }) refl refl
 
 -- p is free now, and x enters it
 abbrev pub x_charged : State
@@ -122,72 +68,30 @@ abbrev pub leaf_called : State
 leaf_called = call_entered 1 4 1 [] (leaf 8 []) x_charged
 
 leaf_calls : Step opposite_orders y_returned (quiet (entry.Call 1 4 1 1 1 [])) leaf_called
-leaf_calls = record {
-  made = leaf_called;
-  enabled = refl;
-  makes = record {
-    charged = x_charged;
-    frame = leaf 8 [];
-    wants = refl;
-    unrefused = refl;
-    into = refl;
-    lives = refl;
-    number = refl;
-    begins = record { is = refl; body = (refl, refl, refl) };
-    becomes = refl;
-  };
-  frees = refl;
-  swept = refl;
-}
+leaf_calls = rows.enters x_charged 8 refl refl refl refl refl refl refl refl refl refl refl
 
 abbrev pub y_done : State
 y_done = with_thread leaf_called 2 (record (thread 9997 1 []) { done = true })
 
 y_ends : Step opposite_orders leaf_called (quiet (entry.Done 2)) y_done
-y_ends = record { made = y_done; enabled = refl; makes = record { thread = thread 9997 1 []; of = refl; wants = refl; becomes = refl }; frees = refl; swept = refl }
+y_ends = rows.finishes _ refl refl refl refl refl refl
 
 abbrev pub leaf_returned : State
 leaf_returned = with_top 1 (x_go 3 (Some (value.Cap 1) ∷ Some (value.Num 9) ∷ [])) (after_return 1 9997 (thread 9998 0 []) (value.Num 9 ∷ []) y_done)
 
 leaf_returns : Step opposite_orders y_done (quiet (entry.Ret 1 4 (value.Num 9 ∷ []))) leaf_returned
-leaf_returns = record {
-  made = leaf_returned;
-  enabled = refl;
-  makes = record {
-    thread = thread 9998 0 [];
-    fuel = 9997;
-    frame = leaf 9 (Some (value.Num 9) ∷ []);
-    of = refl;
-    wants = refl;
-    call = refl;
-    replies = record { frame = x_go 3 (Some (value.Cap 1) ∷ Some (value.Num 9) ∷ []); answers = refl; becomes = refl };
-  };
-  frees = refl;
-  swept = refl;
-}
+leaf_returns =
+    rows.returns (thread 9998 0 []) 9997 (leaf 9 (Some (value.Num 9) ∷ [])) refl refl refl refl (record { frame = x_go 3 (Some (value.Cap 1) ∷ Some (value.Num 9) ∷ []); answers = refl; becomes = refl }) refl refl
 
 abbrev pub x_returned : State
 x_returned = with_thread (after_return 1 9996 (thread 9996 0 []) (value.Num 9 ∷ []) leaf_returned) 1 (thread 9995 1 [])
 
 x_returns : Step opposite_orders leaf_returned (quiet (entry.Ret 1 1 (value.Num 9 ∷ []))) x_returned
-x_returns = record {
-  made = x_returned;
-  enabled = refl;
-  makes = record {
-    thread = thread 9996 0 [];
-    fuel = 9996;
-    frame = x_go 3 (Some (value.Cap 1) ∷ Some (value.Num 9) ∷ []);
-    of = refl;
-    wants = refl;
-    call = refl;
-    replies = record { thread = thread 9995 0 []; of = refl; becomes = refl };
-  };
-  frees = refl;
-  swept = refl;
-}
+x_returns =
+    rows.returns (thread 9996 0 []) 9996 (x_go 3 (Some (value.Cap 1) ∷ Some (value.Num 9) ∷ [])) refl refl refl refl (record { thread = thread 9995 0 []; of = refl; becomes = refl }) refl refl
 
 x_ends : Step opposite_orders x_returned (quiet (entry.Done 1)) opposite_orders_end
-x_ends = record { made = opposite_orders_end; enabled = refl; makes = record { thread = thread 9995 1 []; of = refl; wants = refl; becomes = refl }; frees = refl; swept = refl }
+x_ends = rows.finishes _ refl refl refl refl refl refl
 
 done : AllDone opposite_orders_end
 done zero d lt = refl

@@ -9,7 +9,7 @@ use Rattle.rl_defs.specs.declared.load.Command.{Command}
 use Rattle.rl_defs.specs.declared.load.Command.TheVariants as command
 use Rattle.rl_defs.specs.declared.load.ScriptArg.TheVariants as given
 use Rattle.rl_defs.specs.Domains.{row, load_row}
-use Rattle.rl_defs.specs.NameRules.{structs_used, traits_used}
+use Rattle.rl_defs.specs.CodeNames.{structs_used, traits_used}
 use Rattle.rl_defs.specs.TableSizes.{IsStructSmall, IsMethodSmall, IsTraitSmall, AreTablesSmall}
 use Rattle.rl_defs.specs.ValidScripts.{BindsBefore, CallFits, CommandFits, IsValidScript}
 use Rattle.rl_defs.specs.Valid.{IsOwnable, IsPassable, IsValidStruct, IsValidMethod, IsValidTrait, AreValidTables, IsValidDomain, IsValidLoad, IsValidShadow, Valid}

@@ -15,6 +15,7 @@ use Rattle.worked_runs.specs.EndedCaller.{ended_caller}
 use Rattle.worked_runs.specs.LentWhileKilled.{lent_load, lent_up_to_kill, lent_before_last}
 use Rattle.worked_runs.specs.Wrong.{issued_once, IsIssuedOnce, IsInnermostFirst, IsReloadCounted, IsKeptWhileLent, IsFreedWithTheLast}
 use Rattle.worked_runs.proofs.ToldTurns.{LeadsOnly, OneWay, at_start, then_only, goes_nowhere, still_nowhere, frees_only, nil-cons, is_wrong}
+use Rattle.worked_runs.proofs.Rows as rows
 use Rattle.worked_runs.proofs.Determined.{same_call, same_kill, same_new, same_reload, same_return}
 use Rattle.worked_runs.proofs.EndedCaller.{killed, inner, call, call_inner, kill}
 use Rattle.worked_runs.proofs.LentWhileKilled as loan
@@ -27,55 +28,21 @@ abbrev pub x_called : State
 x_called = call_entered 1 1 1 [] size_frame (with_thread (start issued_once) 1 (thread 9999 0 []))
 
 x_calls : Step issued_once (start issued_once) (quiet (entry.Call 1 1 2 1 0 [])) x_called
-x_calls = record {
-  made = x_called;
-  enabled = refl;
-  makes = record {
-    charged = with_thread (start issued_once) 1 (thread 9999 0 []);
-    frame = size_frame;
-    wants = refl;
-    unrefused = refl;
-    into = refl;
-    lives = refl;
-    number = refl;
-    begins = record { is = refl; body = (refl, refl, refl) };
-    becomes = refl;
-  };
-  frees = refl;
-  swept = refl;
-}
+x_calls = rows.enters (with_thread (start issued_once) 1 (thread 9999 0 [])) 2 refl refl refl refl refl refl refl refl refl refl refl
 
 abbrev pub y_killed : State
 y_killed = ended 1 (with_thread x_called 2 (thread 9999 1 []))
 
 y_kills : Step issued_once x_called (quiet (entry.Kill 2 1)) y_killed
-y_kills = record {
-  made = y_killed;
-  enabled = refl;
-  makes = record { thread = thread 0 0 []; target = 2; of = refl; wants = refl; inside = refl; becomes = refl };
-  frees = refl;
-  swept = refl;
-}
+y_kills = rows.kills (thread 0 0 []) 2 refl refl refl refl refl refl refl
 
 abbrev pub y_loaded : State
 y_loaded = reloaded issued_once 2 2 0 y_killed
 
 y_reloads : Step issued_once y_killed (quiet (entry.Reload 2 2 2 0)) y_loaded
-y_reloads = record {
-  made = y_loaded;
-  enabled = refl;
-  makes = record {
-    shadow = record { current = 1; left = 1 };
-    of = refl;
-    dead = refl;
-    restarts = refl;
-    needed = inl (record { wished = _; wants = refl; target = refl; unrefused = refl });
-    number = refl;
-    becomes = refl;
-  };
-  frees = refl;
-  swept = refl;
-}
+y_reloads = rows.quietly refl
+    (record { shadow = record { current = 1; left = 1 }; of = refl; dead = refl; restarts = refl; needed = inl (record { wished = _; wants = refl; target = refl; unrefused = refl }); number = refl; becomes = refl })
+    refl refl
 
 y_loads_only : LeadsOnly issued_once (quiet (entry.Reload 2 2 2 0) ∷ quiet (entry.Kill 2 1) ∷ quiet (entry.Call 1 1 2 1 0 []) ∷ []) y_loaded
 y_loads_only = then_only (then_only (then_only at_start x_calls (λ y z. same_call refl)) y_kills (λ y z. same_kill)) y_reloads (λ y z. same_reload)
@@ -109,13 +76,7 @@ abbrev pub driver_killed : State
 driver_killed = ended 1 (with_thread (start killed_in_a_read) 2 (thread 9999 1 []))
 
 kills_driver : Step killed_in_a_read (start killed_in_a_read) (quiet (entry.Kill 2 1)) driver_killed
-kills_driver = record {
-  made = driver_killed;
-  enabled = refl;
-  makes = record { thread = thread 0 0 []; target = 2; of = refl; wants = refl; inside = refl; becomes = refl };
-  frees = refl;
-  swept = refl;
-}
+kills_driver = rows.kills (thread 0 0 []) 2 refl refl refl refl refl refl refl
 
 driver_killed_only : LeadsOnly killed_in_a_read (quiet (entry.Kill 2 1) ∷ []) driver_killed
 driver_killed_only = then_only at_start kills_driver (λ y z. same_kill)
