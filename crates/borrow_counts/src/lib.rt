@@ -2,6 +2,8 @@
 //! (RedLeaf, OSDI 2020, section 3.1).
 #![tactic(auto)]
 
+#[cfg(test)]
+mod tests;
 mod word;
 
 pub use word::{BorrowWord, MOST_LOANS};

@@ -13,6 +13,8 @@ mod place;
 mod places;
 mod steps;
 mod store;
+#[cfg(test)]
+mod tests;
 
 pub use heap::{Heap, ObjectRow};
 pub use may_move::heap_may_move;
