@@ -78,30 +78,58 @@ fn told_again(alloc: Global, text: &[u8]) -> Result<Vec<u8>, LoadFault>
 }
 
 /// The lines that are no entries, and the history and the replies that the others tell.
-pub(crate) fn told(alloc: Global, load: &Load, lines: &[u8]) -> Result<Vec<u8>, AllocError>
+fn told(alloc: Global, load: &Load, lines: &[u8]) -> Result<Vec<u8>, AllocError>
     requires { HasWords load.now }
 {
     let spellings = Spellings::new(alloc, load)?;
     let mut out = Vec::new(alloc);
     let mut log = Log::new(alloc);
-    let mut at = 0;
-    'lines: while at < lines.len() {
-        let line = first_line(&lines[at..]);
-        at += line.len();
-        match read_entry(alloc, &spellings, line)? {
-            Some(entry) => {
-                log.reserve(1)?;
-                log.put(entry);
-            }
-            None => {
-                out.extend_from_slice(b"no entry: ")?;
-                out.extend_from_slice(line)?;
-            }
-        }
-    }
+    read_lines(alloc, &spellings, &mut out, &mut log, lines)?;
     out.extend_from_slice(b"history\n")?;
     write_log(&spellings, &mut out, &log)?;
     out.extend_from_slice(b"replies\n")?;
     write_replies(alloc, &spellings, &mut out, &log)?;
     Ok(out)
+}
+
+/// Puts the entries that lines are into the log, and the other lines into the text.
+fn read_lines(
+    alloc: Global,
+    spellings: &Spellings,
+    out: &mut Vec<u8>,
+    log: &mut Log,
+    lines: &[u8],
+) -> Result<(), AllocError>
+    requires { HasWords spellings.now }
+{
+    let mut at = 0;
+    'lines: while at < lines.len() {
+        let line = first_line(&lines[at..]);
+        at += line.len();
+        read_line(alloc, spellings, out, log, line)?;
+    }
+    Ok(())
+}
+
+/// Puts the entry that a line is into the log, and a line that is none into the text, behind `no entry: `.
+fn read_line(
+    alloc: Global,
+    spellings: &Spellings,
+    out: &mut Vec<u8>,
+    log: &mut Log,
+    line: &[u8],
+) -> Result<(), AllocError>
+    requires { HasWords spellings.now }
+{
+    match read_entry(alloc, spellings, line)? {
+        Some(entry) => {
+            log.reserve(1)?;
+            log.put(entry);
+            Ok(())
+        }
+        None => {
+            out.extend_from_slice(b"no entry: ")?;
+            out.extend_from_slice(line)
+        }
+    }
 }
