@@ -1,0 +1,4 @@
+pub mod Driver
+pub mod Laws
+pub mod Store
+pub mod Texts
