@@ -1,0 +1,10 @@
+pub mod Acting
+pub mod Calls
+pub mod CellsShown
+pub mod Given
+pub mod Inside
+pub mod Kept
+pub mod Known
+pub mod Replying
+pub mod Returning
+pub mod Slots
