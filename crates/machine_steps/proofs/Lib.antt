@@ -33,6 +33,8 @@ pub mod RowsSeen
 pub mod ScriptNews
 pub mod ScriptShows
 pub mod ScriptSteps
+pub mod Seeing
+pub mod Settling
 pub mod ShownCells
 pub mod SlotActs
 pub mod Stacked

@@ -7,4 +7,6 @@ pub mod Kept
 pub mod Known
 pub mod Replying
 pub mod Returning
+pub mod Sights
 pub mod Slots
+pub mod Wishes
