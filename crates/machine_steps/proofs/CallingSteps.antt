@@ -146,4 +146,4 @@ module _ {w : Inside} (k : IsKept w) (t x m i : ℕ) (args : List Arg) (charged 
         goes_quietly known (entry.Call t w.next_call x i m args) (made f begins) k may (call_row f begins) refl
         (same_parts (sym paid.instances) objects frames threads' (sym paid.shadows) (sym paid.blocks) (ap (λ n. n + 1) many ∙ sym paid.next_object) next')
         (record { load = refl; proxies = refl; entries = entries; spare = omega (arith, spare); counts = omega (arith, counts, k.rooms.counts); clients = omega (arith, clients); owners = omega (arith, owners, k.rooms.owners) })
-        (subst (Rattle.machine_steps.specs.Inside.Agrees L (made f begins)) (sym rows) (agrees_handed L s (made f begins) w.heap.rows args (owner.Instance i) kept'.numbered (call_loans f begins) k.agrees))
+        (subst (Rattle.machine_steps.specs.Kept.Agrees L (made f begins)) (sym rows) (agrees_handed L s (made f begins) w.heap.rows args (owner.Instance i) kept'.numbered (call_loans f begins) k.agrees))

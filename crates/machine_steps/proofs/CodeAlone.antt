@@ -8,7 +8,7 @@ use Rattle.rl_defs.specs.declared.load.LoadRow.{LoadRow}
 use Rattle.rl_defs.specs.DomainValue.{Domain}
 use Rattle.rl_defs.specs.Domains.{load_row, domain_of, domain_lines, is_native}
 use Rattle.rl_defs.specs.Rows.{domain_of_load, domain_or_none, domain_in}
-use Rattle.machine_steps.specs.Inside.{IsCodeAlone}
+use Rattle.machine_steps.specs.Kept.{IsCodeAlone}
 
 -- a load is of the domain with this number
 abbrev pub is_loaded : List LoadRow → ℕ → Bool

@@ -20,8 +20,8 @@ use Rattle.rref_heap.specs.Leaving.{leaving_in, swept_rows}
 use Rattle.trampolines.specs.Laid.{Laid}
 use Rattle.machine_steps.specs.declared.machine.Machine.TheInside.{Inside}
 use Rattle.machine_steps.specs.declared.standing.Standing.{Standing}
-use Rattle.machine_steps.specs.Kept.{MayStep}
-use Rattle.machine_steps.specs.Inside.{state_of, kept, IsKept, Agrees}
+use Rattle.machine_steps.specs.Kept.{MayStep, Agrees}
+use Rattle.machine_steps.specs.Inside.{state_of, kept, IsKept}
 use Rattle.machine_steps.specs.Known.{Known}
 use Rattle.machine_steps.specs.Acting.{WouldAct}
 use Rattle.machine_steps.proofs.Stepping.{Stepped, goes}

@@ -19,8 +19,8 @@ use Rattle.rref_heap.specs.Changing.{unless, leaving, with_leaving, hangs_below}
 use Rattle.rref_heap.specs.Leaving.{swept_row, swept_rows, leaving_number, leaving_in}
 use Rattle.rref_heap.proofs.Objects.{IsNumbered, Tells, object_found, unless_passing, passing_number, objects_unless, objects_with_leaving, objects_unless_passing, passing_numbers, same_map, same_filter_map, swept_is, leaving_is, row_of_map}
 use Rattle.machine_steps.specs.declared.machine.Machine.TheInside.{Inside}
-use Rattle.machine_steps.specs.Kept.{MayStep}
-use Rattle.machine_steps.specs.Inside.{state_of, kept, IsKept, Agrees, AgreesAt}
+use Rattle.machine_steps.specs.Kept.{MayStep, Agrees, AgreesAt}
+use Rattle.machine_steps.specs.Inside.{state_of, kept, IsKept}
 use Rattle.machine_steps.specs.Known.{Known}
 
 -- the rows without an object, where what hung in it is listed for the sweep

@@ -15,8 +15,8 @@ use Rattle.rref_heap.specs.HeapValue.{HeapRow, HeapRows, heap_objects, row_of}
 use Rattle.rref_heap.specs.Leaving.{leaving_in, leaving_number, swept_row, swept_rows}
 use Rattle.rref_heap.proofs.Objects.{Tells, leaving_is, objects_unless, objects_unless_passing, objects_with_leaving, passing_number, passing_numbers, row_of_map, same_filter_map, same_map, swept_is, unless_passing}
 use Rattle.machine_steps.specs.declared.machine.Machine.TheInside.{Inside}
-use Rattle.machine_steps.specs.Kept.{MayStep}
-use Rattle.machine_steps.specs.Inside.{state_of, kept, IsKept, Agrees}
+use Rattle.machine_steps.specs.Kept.{MayStep, Agrees}
+use Rattle.machine_steps.specs.Inside.{state_of, kept, IsKept}
 use Rattle.machine_steps.specs.Known.{Known}
 use Rattle.machine_steps.proofs.Stepping.{KeepsRows, agrees_mapped}
 

@@ -23,8 +23,8 @@ use Rattle.rref_heap.specs.HeapValue.{HeapRow, HeapRows, HeapValue, row_of, heap
 use Rattle.rref_heap.specs.Leaving.{leaving_in, is_left, is_left_root, is_left_row, row_without, rows_without, left_number, left_by}
 use Rattle.rref_heap.proofs.Objects.{IsNumbered, Tells, object_found, unless_passing, passing_number, objects_unless_passing, passing_numbers, same_map, same_filter_map, without_is, left_is}
 use Rattle.machine_steps.specs.declared.machine.Machine.TheInside.{Inside}
-use Rattle.machine_steps.specs.Kept.{MayStep}
-use Rattle.machine_steps.specs.Inside.{state_of, kept, IsKept, Agrees}
+use Rattle.machine_steps.specs.Kept.{MayStep, Agrees}
+use Rattle.machine_steps.specs.Inside.{state_of, kept, IsKept}
 use Rattle.machine_steps.specs.Known.{Known}
 use Rattle.machine_steps.specs.Acting.{WouldAct, at_standing}
 use Rattle.machine_steps.specs.declared.standing.Standing.{Standing}

@@ -23,8 +23,8 @@ use Rattle.rref_heap.specs.HeapValue.{HeapRow, HeapRows, HeapValue, row_of, heap
 use Rattle.rref_heap.specs.Kept.{IsHeapOf, HangsWell}
 use Rattle.rref_heap.proofs.Objects.{IsNumbered, row_of_map}
 use Rattle.machine_steps.specs.declared.machine.Machine.TheInside.{Inside}
-use Rattle.machine_steps.specs.Kept.{MayStep}
-use Rattle.machine_steps.specs.Inside.{state_of, kept, IsKept, Agrees}
+use Rattle.machine_steps.specs.Kept.{MayStep, Agrees}
+use Rattle.machine_steps.specs.Inside.{state_of, kept, IsKept}
 use Rattle.machine_steps.specs.Known.{Known}
 use Rattle.machine_steps.proofs.Freeing.{RootRow, root_row, row_found, found_row, owner_of_root, is_heap_root, all_numbers, TellsAt, Frees, dooms_by_rows, frees_listed, KeepsRooms}
 

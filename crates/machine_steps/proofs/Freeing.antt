@@ -25,8 +25,8 @@ use Rattle.rref_heap.specs.Leaving.{swept_row, swept_rows, leaving_in}
 use Rattle.rref_heap.proofs.Objects.{IsNumbered, object_found, objects_swept, leaving_numbers, row_of_map}
 use Rattle.trampolines.specs.Laid.{Laid}
 use Rattle.machine_steps.specs.declared.machine.Machine.TheInside.{Inside}
-use Rattle.machine_steps.specs.Kept.{MayStep}
-use Rattle.machine_steps.specs.Inside.{state_of, kept, IsKept, Agrees}
+use Rattle.machine_steps.specs.Kept.{MayStep, Agrees}
+use Rattle.machine_steps.specs.Inside.{state_of, kept, IsKept}
 use Rattle.machine_steps.specs.Known.{Known}
 use Rattle.machine_steps.proofs.Stepping.{Stepped, Logged, goes}
 

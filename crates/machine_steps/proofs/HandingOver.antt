@@ -15,7 +15,7 @@ use Rattle.machine_defs.specs.Sound.{IsRoot}
 use Rattle.rref_heap.specs.HeapValue.{HeapRow, HeapRows, row_of, heap_objects, object_in, is_rref, owner_at, owner_in, leaves_at, loans_at}
 use Rattle.rref_heap.proofs.Objects.{IsNumbered, object_found, row_of_map}
 use Rattle.proxies.specs.Objects.{handed, handed_row, passed, IsFree, MayLend}
-use Rattle.machine_steps.specs.Inside.{Agrees, AgreesAt}
+use Rattle.machine_steps.specs.Kept.{Agrees, AgreesAt}
 
 -- what stands in a list is in it
 has_got : (xs : List ℕ) (k d : ℕ) → k < length xs → has xs (slice_index_or xs k d) ≡ true

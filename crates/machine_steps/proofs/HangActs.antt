@@ -107,6 +107,16 @@ module _ {w : Inside} (k : IsKept w) (heap : IsHeapOf w.heap) (t i o at v : ℕ)
 
 -- ---- out of a cell
 
+-- an object hangs in the cell
+pub record HungFull (w : Inside) (o at : ℕ) : Type 0 where
+  pub hung : ℕ
+  pub is : hung_in (state_of w) o at ≡ Some hung
+
+pub hung_full : {w : Inside} (k : IsKept w) (t i o at : ℕ) (stand : Standing) → WouldAct (kept w) t i (action.Unhang o at) stand → HungFull w o at
+hung_full k t i o at stand would =
+    let acts = code_acts k t i (action.Unhang o at) stand would (λ c same. cc) in
+    record { hung = acts.can.object; is = acts.can.there }
+
 module _ {w : Inside} (k : IsKept w) (heap : IsHeapOf w.heap) (t i o at v : ℕ) (stand : Standing) (would : WouldAct (kept w) t i (action.Unhang o at) stand) (full : hung_in (state_of w) o at ≡ Some v) where
   pub unhang_acts : CodeActs w t i (action.Unhang o at) stand
   unhang_acts = code_acts k t i (action.Unhang o at) stand would (λ c same. cc)

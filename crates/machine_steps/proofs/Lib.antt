@@ -4,6 +4,7 @@ pub mod AgainSteps
 pub mod BlockActs
 pub mod CallingSteps
 pub mod CellActs
+pub mod Choosing
 pub mod ClientEntering
 pub mod CodeAlone
 pub mod Commands
@@ -36,6 +37,7 @@ pub mod ScriptSteps
 pub mod Seeing
 pub mod Settling
 pub mod ShownCells
+pub mod Sizes
 pub mod SlotActs
 pub mod Stacked
 pub mod Starting

@@ -24,8 +24,8 @@ use Rattle.rref_heap.specs.Changing.{unless, with_leaving}
 use Rattle.rref_heap.specs.Leaving.{swept_row, swept_rows, leaving_in}
 use Rattle.rref_heap.proofs.Objects.{IsNumbered}
 use Rattle.machine_steps.specs.declared.machine.Machine.TheInside.{Inside}
-use Rattle.machine_steps.specs.Kept.{MayStep}
-use Rattle.machine_steps.specs.Inside.{state_of, kept, IsKept, Agrees}
+use Rattle.machine_steps.specs.Kept.{MayStep, Agrees}
+use Rattle.machine_steps.specs.Inside.{state_of, kept, IsKept}
 use Rattle.machine_steps.specs.Known.{Known}
 use Rattle.machine_steps.specs.Calls.{IsNamed}
 use Rattle.machine_steps.proofs.Stepping.{Stepped, goes}

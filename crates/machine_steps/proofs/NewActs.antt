@@ -61,8 +61,8 @@ use Rattle.trampolines.specs.Laid.{Laid}
 use Rattle.code_machine.specs.Fitting.{Awaits, standing}
 use Rattle.machine_steps.specs.declared.machine.Machine.TheInside.{Inside}
 use Rattle.machine_steps.specs.declared.standing.Standing.{Standing}
-use Rattle.machine_steps.specs.Kept.{MayStep}
-use Rattle.machine_steps.specs.Inside.{state_of, kept, IsKept, Agrees, AgreesAt}
+use Rattle.machine_steps.specs.Kept.{MayStep, Agrees, AgreesAt}
+use Rattle.machine_steps.specs.Inside.{state_of, kept, IsKept}
 use Rattle.machine_steps.specs.Known.{Known}
 use Rattle.machine_steps.specs.Acting.{WouldAct, at_standing, domain_in}
 use Rattle.machine_steps.proofs.Stepping.{Stepped, goes_quietly}

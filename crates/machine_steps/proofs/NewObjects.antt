@@ -16,7 +16,8 @@ use Rattle.rref_heap.specs.Changing.{new_row, on_row, on_object, with_new_object
 use Rattle.rref_heap.specs.HeapValue.{HeapRow, HeapRows, HeapValue, Room, cells_at, is_rref, room_of, row_of}
 use Rattle.rref_heap.proofs.Objects.{IsNumbered, NumberedBehind, numbered_behind, numbered_head, numbered_tail}
 use Rattle.machine_steps.specs.declared.machine.Machine.TheInside.{Inside}
-use Rattle.machine_steps.specs.Inside.{state_of, IsKept, Agrees, AgreesAt}
+use Rattle.machine_steps.specs.Inside.{state_of, IsKept}
+use Rattle.machine_steps.specs.Kept.{Agrees, AgreesAt}
 use Rattle.machine_steps.specs.Known.{Known}
 
 -- ---- one row more

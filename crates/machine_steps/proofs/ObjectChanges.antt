@@ -18,8 +18,8 @@ use Rattle.rref_heap.proofs.Objects.{objects_on_object}
 use Rattle.trampolines.specs.Laid.{Laid}
 use Rattle.machine_steps.specs.declared.machine.Machine.TheInside.{Inside}
 use Rattle.machine_steps.specs.declared.standing.Standing.{Standing}
-use Rattle.machine_steps.specs.Kept.{MayStep}
-use Rattle.machine_steps.specs.Inside.{state_of, kept, IsKept, Agrees}
+use Rattle.machine_steps.specs.Kept.{MayStep, Agrees}
+use Rattle.machine_steps.specs.Inside.{state_of, kept, IsKept}
 use Rattle.machine_steps.specs.Known.{Known}
 use Rattle.machine_steps.proofs.Stepping.{Stepped, goes_quietly, agrees_mapped, KeepsRows}
 use Rattle.machine_steps.proofs.Acting.{CodeActs, answered_state, same_parts}

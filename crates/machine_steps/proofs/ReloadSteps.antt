@@ -17,8 +17,8 @@ use Rattle.machine_laws.proofs.EndSteps.{top_call}
 use Rattle.trampolines.specs.Laid.{Laid}
 use Rattle.rref_heap.specs.HeapValue.{HeapValue, heap_objects}
 use Rattle.machine_steps.specs.declared.machine.Machine.TheInside.{Inside}
-use Rattle.machine_steps.specs.Kept.{MayStep}
-use Rattle.machine_steps.specs.Inside.{state_of, kept, IsKept, Agrees}
+use Rattle.machine_steps.specs.Kept.{MayStep, Agrees}
+use Rattle.machine_steps.specs.Inside.{state_of, kept, IsKept}
 use Rattle.machine_steps.specs.Known.{Known}
 use Rattle.machine_steps.specs.Calls.{MayReload}
 use Rattle.machine_steps.proofs.Stepping.{Stepped, goes_quietly, agrees_lent}

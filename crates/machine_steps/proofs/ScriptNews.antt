@@ -33,8 +33,8 @@ use Rattle.rref_heap.specs.Changing.{on_object, with_new_object}
 use Rattle.rref_heap.specs.HeapValue.{HeapRows, HeapValue, cells_at, heap_objects, room_of}
 use Rattle.rref_heap.proofs.Objects.{IsNumbered, objects_append}
 use Rattle.machine_steps.specs.declared.machine.Machine.TheInside.{Inside}
-use Rattle.machine_steps.specs.Kept.{MayStep}
-use Rattle.machine_steps.specs.Inside.{state_of, kept, IsKept, Agrees}
+use Rattle.machine_steps.specs.Kept.{MayStep, Agrees}
+use Rattle.machine_steps.specs.Inside.{state_of, kept, IsKept}
 use Rattle.machine_steps.specs.Known.{Known}
 use Rattle.machine_steps.specs.Given.{name_given, struct_given, values_given}
 use Rattle.machine_steps.proofs.Stepping.{Stepped, goes_quietly}

@@ -1,11 +1,9 @@
 -- What the heap tells of an object is what a frame sees of it.
-use Rattle.std.proofs.Common.{◌≡◌, ℕ, zero, suc, ◌<◌, ◌≤◌, ◌==◌, true, false, List, [], ◌∷◌, length, find, Option, Some, None, is_some, slice_get, refl, sym, ap, subst, ◌∙◌, arith, true≢false}
-use Rattle.std.specs.Option.{option_map}
+use Rattle.std.proofs.Common.{◌≡◌, ℕ, ◌<◌, ◌≤◌, ◌==◌, true, false, find, Option, Some, None, is_some, slice_get, refl, sym, ap, ◌∙◌, arith, true≢false}
 use Rattle.rl_defs.specs.declared.tables.Kind.{Kind}
-use Rattle.rl_defs.specs.declared.tables.Kind.TheVariants as kind
 use Rattle.rl_defs.specs.declared.load.LoadRows.{LoadRows}
 use Rattle.rl_defs.specs.CodeNames.{cells_of}
-use Rattle.machine_defs.specs.State.{State, Object, Hung}
+use Rattle.machine_defs.specs.State.{State}
 use Rattle.machine_defs.specs.Objects.{kinds_of, cells_in, if_number, number_cell}
 use Rattle.machine_defs.specs.Loans.{object_of}
 use Rattle.rref_heap.specs.HeapValue.{HeapRow, HeapRows, HeapValue, row_of, object_in, heap_objects, cells_at, hung_at, is_there, leaves_at}

@@ -1,5 +1,5 @@
 -- The top frame of a client is one of code that fits what it sees, and what it settles on is what its client wants.
-use Rattle.std.proofs.Common.{◌≡◌, ℕ, zero, suc, ◌+◌, ◌<◌, ◌≤◌, ◌++◌, Bool, true, false, List, [], ◌∷◌, length, Option, Some, None, slice_get, refl, sym, ap, subst, ◌∙◌, arith, inl, inr, true≢false, if◌then◌else◌}
+use Rattle.std.proofs.Common.{◌≡◌, ℕ, zero, suc, ◌<◌, ◌≤◌, Bool, true, [], length, Option, Some, None, slice_get, refl, sym, ap, subst, ◌∙◌, arith, inl, inr, true≢false, if◌then◌else◌}
 use Rattle.std.proofs.lemmas.Option.{slice_get_cases}
 use Rattle.std.specs.Option.{option_map_or}
 use Rattle.rl_defs.specs.declared.tables.StructRow.{StructRow}
@@ -7,8 +7,7 @@ use Rattle.rl_defs.specs.declared.load.LoadRows.{LoadRows}
 use Rattle.rl_defs.specs.TableSizes.{IsStructSmall, AreTablesSmall}
 use Rattle.rl_defs.specs.CodeNames.{cells_of, flat_of}
 use Rattle.rl_defs.specs.Rows.{row}
-use Rattle.rl_defs.specs.Registers.{Registers, Stand}
-use Rattle.rl_defs.specs.Valid.{Valid}
+use Rattle.rl_defs.specs.Registers.{Registers}
 use Rattle.rl_defs.proofs.TableSizes.{all_at}
 use Rattle.machine_defs.specs.declared.frame.Action.{Action}
 use Rattle.machine_defs.specs.declared.frame.FrameBody.{FrameBody}
@@ -16,26 +15,25 @@ use Rattle.machine_defs.specs.declared.frame.FrameBody.TheVariants as body
 use Rattle.machine_defs.specs.CodeFits.{FitsStand}
 use Rattle.machine_defs.specs.Instructions.{Before, settle}
 use Rattle.machine_defs.specs.Loans.{object_of}
-use Rattle.machine_defs.specs.State.{State, StackFrame, Thread, top, stack, is_live, lives}
+use Rattle.machine_defs.specs.State.{StackFrame, Thread, top, stack, is_live}
 use Rattle.machine_defs.specs.Seen.{types_of, seen}
-use Rattle.machine_defs.specs.Frames.{below_top, with_body}
-use Rattle.machine_defs.specs.Wants.{Want, Nothing, Acts, by_top, by_frame, by_body, settled, wanted}
-use Rattle.machine_laws.specs.Fitting.{BodyFits, StackFits, CodeRuns, ObjectFits}
+use Rattle.machine_defs.specs.Frames.{below_top}
+use Rattle.machine_defs.specs.Wants.{Want, Nothing, by_top, by_frame, by_body, settled}
+use Rattle.machine_laws.specs.Fitting.{BodyFits, StackFits, CodeRuns}
 use Rattle.machine_laws.proofs.Stacks.{top_splits}
 use Rattle.machine_laws.proofs.StackFits.{fits_split}
 use Rattle.machine_laws.proofs.Sights.{sees}
 use Rattle.code_machine.specs.Fitting.{standing, Fitting}
-use Rattle.rref_heap.specs.HeapValue.{HeapRow, HeapRows, row_of, object_in}
+use Rattle.rref_heap.specs.HeapValue.{object_in}
 use Rattle.rref_heap.specs.Kept.{IsHeapOf}
 use Rattle.rref_heap.proofs.Objects.{object_found}
 use Rattle.trampolines.specs.Words as words
 use Rattle.trampolines.proofs.Agreeing.{same_top, same_frames}
 use Rattle.machine_steps.specs.declared.machine.Machine.TheInside.{Inside}
 use Rattle.machine_steps.specs.declared.standing.Standing.{Standing}
-use Rattle.machine_steps.specs.Kept.{Kept}
 use Rattle.machine_steps.specs.Inside.{state_of, kept, IsKept}
-use Rattle.machine_steps.specs.Acting.{WouldAct, at_standing, domain_in}
-use Rattle.machine_steps.specs.Sights.{IsAtRest, IsRowAtRest, seen_by_frame}
+use Rattle.machine_steps.specs.Acting.{WouldAct, domain_in}
+use Rattle.machine_steps.specs.Sights.{IsAtRest, seen_by_frame}
 use Rattle.machine_steps.specs.Wishes.{IsLiveTop}
 use Rattle.machine_steps.proofs.Acting.{holds}
 

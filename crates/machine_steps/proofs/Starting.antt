@@ -9,8 +9,8 @@ use Rattle.machine_defs.specs.Runs.{Begins}
 use Rattle.proxies.specs.Table.{proxies_of}
 use Rattle.rref_heap.specs.HeapValue.{HeapRow, HeapRows, row_of, heap_objects}
 use Rattle.machine_steps.specs.declared.machine.Machine.TheInside.{Inside}
-use Rattle.machine_steps.specs.Kept.{Kept}
-use Rattle.machine_steps.specs.Inside.{state_of, kept, IsKept, IsCodeAlone}
+use Rattle.machine_steps.specs.Kept.{Kept, IsCodeAlone}
+use Rattle.machine_steps.specs.Inside.{state_of, kept, IsKept}
 use Rattle.machine_steps.proofs.Acting.{same_parts}
 
 replicate_is : {A B : Type 0} (y : B) (xs : List A) → replicate (length xs) y ≡ map (λ x. y) xs

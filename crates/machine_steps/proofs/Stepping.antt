@@ -19,8 +19,8 @@ use Rattle.proxies.specs.Table.{proxies_of}
 use Rattle.rref_heap.specs.HeapValue.{HeapRow, HeapRows, row_of, is_rref}
 use Rattle.rref_heap.proofs.Objects.{row_of_map}
 use Rattle.machine_steps.specs.declared.machine.Machine.TheInside.{Inside}
-use Rattle.machine_steps.specs.Kept.{MayStep, Went, TurnsAreShort, begins_turn}
-use Rattle.machine_steps.specs.Inside.{state_of, kept, IsKept, IsCodeAlone, Agrees}
+use Rattle.machine_steps.specs.Kept.{MayStep, Went, TurnsAreShort, begins_turn, IsCodeAlone, Agrees}
+use Rattle.machine_steps.specs.Inside.{state_of, kept, IsKept}
 use Rattle.machine_steps.specs.Known.{Known}
 
 -- one step was made and logged, and all that a machine keeps is kept

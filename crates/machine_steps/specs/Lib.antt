@@ -5,8 +5,10 @@ pub mod Given
 pub mod Inside
 pub mod Kept
 pub mod Known
+pub mod Next
 pub mod Replying
 pub mod Returning
 pub mod Sights
 pub mod Slots
+pub mod Turns
 pub mod Wishes

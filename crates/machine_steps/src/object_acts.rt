@@ -155,8 +155,9 @@ impl Machine {
         requires may { MayStep self.old t }
         requires wants { WouldAct self.old t i (action.Take slot) stand.old }
         requires full { in_slot self.old.state i slot ≡ Some o }
-        ensures { (name : Items ℕ) → IsSlot self.old.load self.old.state i slot name
-            → Went self.old self.new (entry.Take t i name o) }
+        ensures { (name : Items ℕ)
+            × IsSlot self.old.load self.old.state i slot name
+            × Went self.old self.new (entry.Take t i name o) }
     {
         laws();
         let Some(name) = slot_named(&self.load, &self.instances, i, stand.line) else {
@@ -185,8 +186,9 @@ impl Machine {
     pub fn put_in(&mut self, t: u32, i: u32, stand: &mut Standing, slot: u32, o: u64)
         requires may { MayStep self.old t }
         requires wants { WouldAct self.old t i (action.Put slot o) stand.old }
-        ensures { (name : Items ℕ) → IsSlot self.old.load self.old.state i slot name
-            → Went self.old self.new (entry.Put t i name o) }
+        ensures { (name : Items ℕ)
+            × IsSlot self.old.load self.old.state i slot name
+            × Went self.old self.new (entry.Put t i name o) }
     {
         laws();
         let Some(name) = slot_named(&self.load, &self.instances, i, stand.line) else {

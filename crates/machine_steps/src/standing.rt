@@ -10,3 +10,14 @@ pub struct Standing {
     pub line: u32,
     pub registers: Registers,
 }
+
+impl Standing {
+    /// A place for register work.
+    pub fn new() -> Standing {
+        Standing {
+            fuel: 0,
+            line: 0,
+            registers: Registers::new(),
+        }
+    }
+}

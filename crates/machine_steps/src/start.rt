@@ -5,9 +5,9 @@ ghost use Rattle.rl_defs.specs.Valid.{Valid};
 ghost use Rattle.machine_defs.specs.State.{start};
 ghost use Rattle.machine_defs.specs.Runs.{Run};
 ghost use Rattle.rref_heap.specs.HeapValue.{heap_objects};
-ghost use Rattle.machine_steps.specs.Kept.{TurnsAreShort};
-ghost use Rattle.machine_steps.specs.Inside.{IsCodeAlone, Agrees};
+ghost use Rattle.machine_steps.specs.Kept.{TurnsAreShort, IsCodeAlone, Agrees};
 
+use crate::known::laws;
 use crate::machine::Machine;
 use block_device::Blocks;
 use client_threads::Threads;
@@ -125,14 +125,24 @@ impl Machine {
         &self.heap
     }
 
+    /// How many instances were opened.
+    pub fn opened(&self) -> u32
+        ensures { result ≡ length self.now.state.instances }
+    {
+        laws();
+        self.instances.len() as u32
+    }
+
     /// What the type keeps: the load is valid, the log is a run of it that leads to the state, and no turn began that may not. It does
     /// nothing.
     pub fn is_kept(&self)
         ensures valid { Valid self.now.load }
         ensures run { Run self.now.load self.now.log self.now.state }
         ensures turns { TurnsAreShort self.now.log }
+        ensures few { length self.now.log ≤ 327680 }
         ensures code { IsCodeAlone self.now.load }
     {
+        laws();
         let _ = &self.load;
     }
 }

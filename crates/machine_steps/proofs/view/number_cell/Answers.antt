@@ -1,11 +1,10 @@
-use Rattle.std.proofs.Common.{◌≡◌, ℕ, List, sym, ap, ◌∙◌, slice_get, None}
+use Rattle.std.proofs.Common.{◌≡◌, ℕ, List, sym, ap, ◌∙◌, slice_get}
 use Rattle.rl_defs.specs.declared.load.LoadRows.{LoadRows}
-use Rattle.rl_defs.specs.declared.tables.Kind.{Kind}
 use Rattle.rl_defs.specs.declared.tables.Tables.{Tables}
 use Rattle.rl_defs.specs.CodeNames.{cells_of}
 use Rattle.machine_defs.specs.Objects.{if_number}
 use Rattle.rref_heap.specs.HeapValue.{cells_at}
-use Rattle.machine_steps.proofs.Seeing.{cell_gone, cell_of_kind, there}
+use Rattle.machine_steps.proofs.Seeing.{cell_gone, cell_of_kind}
 use Rattle.machine_steps.proofs.view.number_cell.Goals as goal
 
 pub returns-in_default : goal.returns-in_default

@@ -1,6 +1,5 @@
 use Rattle.std.proofs.Common.{subst}
-use Rattle.machine_steps.specs.Kept.{Kept}
-use Rattle.machine_steps.specs.Inside.{Agrees}
+use Rattle.machine_steps.specs.Kept.{Kept, Agrees}
 use Rattle.machine_steps.proofs.machine.Machine.heap.Goals as goal
 
 pub returns-clause-agrees : goal.returns-clause-agrees

@@ -1,10 +1,10 @@
-use Rattle.std.proofs.Common.{◌≡◌, Some, sym, subst, ◌∙◌}
+use Rattle.std.proofs.Common.{sym, subst}
 use Rattle.machine_defs.specs.declared.entry.Entry.TheVariants as entry
 use Rattle.machine_defs.specs.declared.frame.Action.TheVariants as action
 use Rattle.machine_defs.specs.declared.frame.Answer.TheVariants as answer
 use Rattle.machine_defs.specs.ObjectRows.{IsSlot}
-use Rattle.machine_steps.specs.Kept.{MayStep, Went}
-use Rattle.machine_steps.specs.Inside.{state_of, kept}
+use Rattle.machine_steps.specs.Kept.{MayStep}
+use Rattle.machine_steps.specs.Inside.{state_of}
 use Rattle.machine_steps.specs.Acting.{WouldAct}
 use Rattle.machine_steps.proofs.Stepping.{Stepped}
 use Rattle.machine_steps.proofs.Acting.{awaits}
@@ -40,9 +40,4 @@ pub invariant_of-self : goal.invariant_of-self
 invariant_of-self c = (stepped c).kept
 
 pub returns : goal.returns
-returns c name is =
-    let e : Some c.in-Some.name ≡ Some name = sym (named c) ∙ subst (λ w. IsSlot w.load w.state c.args.i c.args.slot name) (sym c.self.view_is) is in
-    let same : c.in-Some.name ≡ name = cc in
-    rw (← c.self.view_is)
-    (subst (λ n. Went (kept c.self.inside) (kept (record c.self.inside { log = c.put.new.self; instances = c.set_slot.new.self; stacks = c.go_on.new.stacks; threads = c.go_on.new.threads })) (entry.Put c.args.t c.args.i n c.args.o))
-    same (stepped c).went)
+returns c = rw (← c.self.view_is) (c.in-Some.name, named c, (stepped c).went)

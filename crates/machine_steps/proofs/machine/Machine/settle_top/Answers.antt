@@ -1,13 +1,12 @@
-use Rattle.std.proofs.Common.{◌≡◌, ℕ, ◌<◌, ◌≤◌, ◌∙◌, sym, subst, ap, refl, length, Option, Some}
+use Rattle.std.proofs.Common.{◌≡◌, ℕ, ◌<◌, ◌≤◌, ◌∙◌, sym, subst, ap, length, Option, Some}
 use Rattle.std.specs.Option.{option_copied}
-use Rattle.rl_defs.specs.Rows.{row}
-use Rattle.machine_defs.specs.State.{StackFrame, Thread, top, stack}
+use Rattle.machine_defs.specs.State.{StackFrame}
 use Rattle.machine_defs.specs.Instructions.{Before, settle}
 use Rattle.machine_defs.specs.Seen.{seen}
 use Rattle.code_machine.specs.Act.{action_of}
 use Rattle.code_machine.specs.Fitting.{standing}
 use Rattle.machine_steps.specs.Kept.{Kept}
-use Rattle.machine_steps.specs.Inside.{kept, state_of}
+use Rattle.machine_steps.specs.Inside.{state_of}
 use Rattle.machine_steps.specs.Acting.{WouldAct, domain_in}
 use Rattle.machine_steps.specs.Sights.{seen_by_frame}
 use Rattle.machine_steps.specs.Wishes.{IsLiveTop}
