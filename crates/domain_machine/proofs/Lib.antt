@@ -1,10 +1,2 @@
-pub mod SmallRules
-pub mod SmallChecked
-pub mod WorkedRun
-pub mod Settling
-pub mod SmallSteps
-pub mod Keeping
-pub mod Rows
-pub mod Returning
-pub mod Ending
-pub mod Orders
+pub mod Going
+pub mod Listed

@@ -1,6 +1,2 @@
-pub mod Small
-pub mod Kept
-pub mod Turns
-pub mod SmallStates
-pub mod World
-pub mod Work
+pub mod Finished
+pub mod Going

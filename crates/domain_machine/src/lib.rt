@@ -1,11 +1,8 @@
-//! The domain machine: a world runs a load, and keeps that its log is a run of it.
-//!
-//! Today it runs loads of the small form, over plain lists: one client, no objects, the rows `call`, `ret` and `done`.
+//! The domain machine: a world is a machine with its order list, and runs its load turn by turn.
 #![tactic(auto)]
 
-pub mod laws;
-mod parts;
-mod registers;
+mod may_move;
 mod world;
 
-pub use world::{Finish, LONGEST, Turn, World};
+pub use machine_steps::Turn;
+pub use world::{Finish, World, builds};
