@@ -1,9 +1,5 @@
-pub mod Lines
 pub mod Numbers
-pub mod Registers
-pub mod Finished
-pub mod Histories
-pub mod KeptTallies
-pub mod Whole
 pub mod Words
 pub mod Refusals
+mod ObjectsLeft
+mod Natives

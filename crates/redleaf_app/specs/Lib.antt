@@ -1,9 +1,5 @@
 pub mod Digits
-pub mod Script
 pub mod Statuses
 pub mod Commands
 pub mod Outcomes
 pub mod Replies
-pub mod Tallies
-pub mod Parts
-pub mod Subjects

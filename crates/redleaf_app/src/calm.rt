@@ -3,63 +3,25 @@ ghost use Rattle.std.specs.Prelude.{◌≡◌, ◌≢◌, ◌≤◌, ◌⊎◌, 
 ghost use Rattle.std.specs.Io.KnownBytes.{Appends};
 ghost use Rattle.rl_io.specs.Causes.{Rose};
 ghost use Rattle.rl_io.specs.Whole.{ConsumesAtMost, ConsumesMoreThan, AppendsShort};
-ghost use Rattle.domain_machine.specs.Small.Form.{IsSmallLoad};
 ghost use Rattle.redleaf_app.specs.declared.command.Command.TheVariants as command;
 ghost use Rattle.redleaf_app.specs.Commands.{AreOfNone};
-ghost use Rattle.redleaf_app.specs.Outcomes.{IsTextOfRun, WasDone, WasRefused, WasCutOff};
+ghost use Rattle.redleaf_app.specs.Outcomes.{WasDone, WasRefused, WasFull, WasCutOff};
 ghost use Rattle.redleaf_app.specs.Replies.{Answers};
 ghost use Rattle.redleaf_app.specs.Statuses.{IsSilent};
 
 use crate::command::{Command, command_of};
-use crate::put::put;
+use crate::put::put_line;
 use crate::refusal::refusal_text;
-use crate::small::read_small;
+use crate::reply::Reply;
+use crate::run::run;
 use crate::status::Status;
-use crate::texts::out_of;
 use domain_loader::load::load;
-use domain_machine::{Finish, World};
-use rl_defs::load::LoadRows;
-use rl_defs::{LoadFault, Refusal};
+use rl_defs::LoadFault;
 use rl_io::{Failed, ReadAll, Sink, Source, read_whole, write_whole};
 use std::alloc::{AllocError, Global};
 
 /// The most bytes that a bundle may have.
 pub const LONGEST_BUNDLE: usize = 1_048_576;
-
-// What is not built yet is refused so.
-const NOT_BUILT: Refusal = Refusal { line: 0, rule: 99 };
-
-// What the bytes of a bundle are answered: a text.
-#[derive(Drop)]
-enum Reply {
-    // It was done what the command asks for.
-    Answered(Vec<u8>),
-    // They are refused.
-    Refused(Vec<u8>),
-}
-
-// Runs a load to its end, and answers the text of the run.
-fn text_of_run(alloc: Global, load: LoadRows) -> Result<Vec<u8>, AllocError>
-    requires { IsSmallLoad load }
-    ensures { IfOk result (λ text. IsTextOfRun load text.items) }
-{
-    let mut world = World::new(alloc, load)?;
-    match world.finish() {
-        Finish::Whole => out_of(alloc, world.load(), world.log().as_slice()),
-        Finish::Long => unreachable!(),
-        Finish::Memory => Err(AllocError),
-    }
-}
-
-// What `run` answers.
-fn run(alloc: Global, bytes: &[u8]) -> Result<Reply, AllocError>
-    ensures { IfOk result (λ reply. Answers command.Run bytes.now reply) }
-{
-    match read_small(alloc, bytes)? {
-        Some(load) => Ok(Reply::Answered(text_of_run(alloc, load)?)),
-        None => Ok(Reply::Refused(refusal_text(alloc, NOT_BUILT)?)),
-    }
-}
 
 // What `check` answers.
 fn check(alloc: Global, bytes: &[u8]) -> Result<Reply, AllocError>
@@ -69,7 +31,7 @@ fn check(alloc: Global, bytes: &[u8]) -> Result<Reply, AllocError>
     match load(alloc, bytes) {
         Ok(_) => {
             let mut text = Vec::new(alloc);
-            put(&mut text, b"accepted\n")?;
+            put_line(&mut text, b"accepted")?;
             Ok(Reply::Answered(text))
         }
         Err(LoadFault::Refused(at)) => Ok(Reply::Refused(refusal_text(alloc, at)?)),
@@ -109,10 +71,13 @@ fn give<K: Sink>(sink: &mut K, text: &[u8], status: Status) -> Status
 ///
 /// It always returns. The whole text is made before its first byte is given, and from then on no memory is taken.
 ///
-/// Each status but [`Status::Memory`] comes only for its cause, and [`Status::Long`] never. So where nothing fails, that is with the words of
-/// a command, a source and a sink whose counts stand still (and below their end), at most [`LONGEST_BUNDLE`] bytes and ample
-/// memory, only [`Status::Done`] and [`Status::Refused`] are left, and of these the bytes decide: with `check`, whether a rule
-/// fails; with `run`, whether they are of the small form, since no other form is built yet.
+/// Each status but [`Status::Memory`] comes only for its cause. Where nothing fails, that is with the words of a command, a source and a
+/// sink whose counts stand still (and below their end), and at most [`LONGEST_BUNDLE`] bytes, the causes of [`Status::Usage`],
+/// [`Status::ReadFault`], [`Status::WriteFault`] and [`Status::TooLong`] are absent. So [`Status::Done`], [`Status::Refused`],
+/// [`Status::Long`] and [`Status::Memory`] are left, and with ample memory the first three. Of these the bytes decide: where a rule fails,
+/// they are refused. Else they stand for one load. With `check` that is all that is asked. With `run` the load is refused where a domain of
+/// it has a native body, since none is built yet; else its turns go round the order list, and either every client comes to the end of its
+/// script, or the history is full before.
 pub fn redleaf_calm<S: Source, K: Sink>(
     alloc: Global,
     words: &[String],
@@ -120,13 +85,17 @@ pub fn redleaf_calm<S: Source, K: Sink>(
     sink: &mut K,
 ) -> Status
     // The command did what it is asked for with the source's bytes, and the whole text that tells of it was written: `accepted`, where no
-    // rule fails, or the text of a whole and ordered run of the load that the bytes stand for.
+    // rule fails, or the text of a whole and ordered run of the load that the bytes are accepted as.
     ensures done { result ≡ Status.Done
         → WasDone LONGEST_BUNDLE (map string_bytes words.now) (S.left source.old) (S.left source.new) (K.given sink.old) (K.given sink.new) }
-    // The bytes that were read to the end are refused: by the first rule that fails, or as something that isn't built.
+    // The bytes that were read to the end are refused: by the first rule that fails, or, with `run`, as something that isn't built.
     ensures refused { result ≡ Status.Refused
         → WasRefused LONGEST_BUNDLE (map string_bytes words.now) (S.left source.old) (S.left source.new) (K.given sink.old) (K.given sink.new) }
-    // A front of the text of Done or of Refused.
+    // The bytes are accepted, and the whole text of an ordered run of their load was written, which stopped before its end, since the
+    // history was full.
+    ensures long { result ≡ Status.Long
+        → WasFull LONGEST_BUNDLE (map string_bytes words.now) (S.left source.old) (S.left source.new) (K.given sink.old) (K.given sink.new) }
+    // A front of the text of Done, of Refused or of Long.
     ensures cut_off { result ≡ Status.WriteFault
         → WasCutOff LONGEST_BUNDLE (map string_bytes words.now) (S.left source.old) (S.left source.new) (K.given sink.old) (K.given sink.new) }
 
@@ -137,7 +106,6 @@ pub fn redleaf_calm<S: Source, K: Sink>(
         → ConsumesMoreThan LONGEST_BUNDLE (S.left source.old) (S.left source.new) }
     ensures not_too_long { result ≢ Status.TooLong
         → ConsumesAtMost LONGEST_BUNDLE (S.left source.old) (S.left source.new) }
-    ensures not_long { result ≢ Status.Long }
 
     // What stays the same.
     ensures unread { result ≡ Status.Usage → source.new ≡ source.old }
@@ -157,6 +125,7 @@ pub fn redleaf_calm<S: Source, K: Sink>(
     match reply_to(alloc, command, &bytes) {
         Ok(Reply::Answered(text)) => give(sink, &text, Status::Done),
         Ok(Reply::Refused(text)) => give(sink, &text, Status::Refused),
+        Ok(Reply::Long(text)) => give(sink, &text, Status::Long),
         Err(AllocError) => Status::Memory,
     }
 }

@@ -1,2 +1,0 @@
-use Rattle.std.proofs.Common.{refl, inl, inr}
-use Rattle.redleaf_app.proofs.calm.redleaf_calm.Goals as goal

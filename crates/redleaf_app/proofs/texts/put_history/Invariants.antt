@@ -1,6 +1,0 @@
-use Rattle.std.proofs.Common.{◌≡◌, ◌++◌, take}
-use Rattle.machine_defs.specs.Texts.{history_text}
-use Rattle.redleaf_app.proofs.texts.put_history.Given as goal
-
-abbrev pub invariant-each : goal.invariant-each
-invariant-each l = l.out.items ≡ l.fn.out.items ++ history_text l.load (take l.entry-index l.entries)
