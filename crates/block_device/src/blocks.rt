@@ -8,7 +8,8 @@ use std::marker::Model;
 /// How many words a block has.
 pub const BLOCK_WORDS: usize = 64;
 
-/// The blocks of the device, from 0, with 64 words each. Contracts see them as a list of lists of words.
+/// The blocks of the device, from 0, with 64 words each. Contracts see them as a list of lists of
+/// words.
 #[derive(Debug, Drop)]
 pub struct Blocks {
     blocks: Vec<[u64; BLOCK_WORDS]>,
@@ -49,7 +50,8 @@ impl Blocks {
         }
     }
 
-    /// The words of block `b` are these from now on. No other block changes, and none does where there is no such block.
+    /// The words of block `b` are these from now on. No other block changes, and none does where
+    /// there is no such block.
     pub fn set(&mut self, b: u64, cells: &[u64])
         requires { length cells.now ≡ 64 }
         ensures { self.new ≡ slice_set self.old b cells.now }

@@ -1,4 +1,5 @@
-//! The shipped driver of a block device, and its law: a `read` that returned gives what the last `devput` to its block had written.
+//! The shipped driver of a block device, and its law: a `read` that returned gives what the last
+//! `devput` to its block had written.
 #![tactic(auto)]
 
 pub mod laws;

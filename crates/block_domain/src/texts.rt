@@ -2,7 +2,8 @@
 
 ghost use Rattle.block_domain.specs.Texts.{IsDriver, IsInterface};
 
-/// The interface of a block device: a block of 64 numbers, and a trait whose methods may all be issued again.
+/// The interface of a block device: a block of 64 numbers, and a trait whose methods may all be
+/// issued again.
 pub fn driver_idl() -> &'static str
     ensures { IsInterface result.now }
 {
@@ -20,7 +21,8 @@ pub trait BDev {
 "
 }
 
-/// The driver's code: `read` makes an object and gets the block into it, `write` puts the lent object into the block.
+/// The driver's code: `read` makes an object and gets the block into it, `write` puts the lent
+/// object into the block.
 pub fn driver_text() -> &'static str
     ensures { IsDriver result.now }
 {

@@ -75,11 +75,12 @@ fn give<K: Sink>(sink: &mut K, text: &[u8], status: Status) -> Status
     }
 }
 
-/// Reads a bundle from the source to its end, and writes it to the sink in its canonical spelling, where no words are
-/// given. Each line stays at its place and keeps its comment. A bundle that rule 1 or 2 refuses is answered by the line
-/// and the rule, as when it is checked.
+/// Reads a bundle from the source to its end, and writes it to the sink in its canonical spelling,
+/// where no words are given. Each line stays at its place and keeps its comment. A bundle that rule
+/// 1 or 2 refuses is answered by the line and the rule, as when it is checked.
 ///
-/// It always returns. The whole text is made before its first byte is given, and from then on no memory is taken.
+/// It always returns. The whole text is made before its first byte is given, and from then on no
+/// memory is taken.
 ///
 /// Each status but [`Status::Memory`] comes only for its cause.
 pub fn format_calm<S: Source, K: Sink>(
@@ -88,16 +89,19 @@ pub fn format_calm<S: Source, K: Sink>(
     source: &mut S,
     sink: &mut K,
 ) -> Status
-    // The bundle was written line by line in its canonical spelling. What was written fares as the bundle does: it is
-    // accepted where the bundle is, with the same load, and else refused at the same line by the same rule.
+    // The bundle was written line by line in its canonical spelling. What was written fares as the
+    // bundle does: it is accepted where the bundle is, with the same load, and else refused at the
+    // same line by the same rule.
     ensures done { result ≡ Status.Done
         → WasDone LONGEST_TEXT (map string_bytes words.now) (S.left source.old) (S.left source.new)
         (K.given sink.old) (K.given sink.new) }
-    // The bytes that were read to the end are refused by rule 1 or 2, and so they are when they are checked.
+    // The bytes that were read to the end are refused by rule 1 or 2, and so they are when they are
+    // checked.
     ensures refused { result ≡ Status.Refused
         → WasRefused LONGEST_TEXT (map string_bytes words.now) (S.left source.old) (S.left source.new)
         (K.given sink.old) (K.given sink.new) }
-    // As it would be written, the bundle is longer than it may be, or doesn't stand for the same lines.
+    // As it would be written, the bundle is longer than it may be, or doesn't stand for the same
+    // lines.
     ensures too_wide { result ≡ Status.TooWide
         → WasTooWide LONGEST_TEXT (map string_bytes words.now) (S.left source.old) (S.left source.new) }
     // A front of the text of Done or of Refused.

@@ -40,7 +40,8 @@ fn stands_for(alloc: Global, bundle: &Bundle, text: &[u8]) -> Result<bool, Alloc
     }
 }
 
-// The bundle's lines as they are written, or None where the canonical text of its parts is longer than a bundle may be.
+// The bundle's lines as they are written, or None where the canonical text of its parts is longer
+// than a bundle may be.
 fn spell(
     alloc: Global,
     bytes: &[u8],
@@ -95,9 +96,10 @@ fn format_read(
     }
 }
 
-/// A bundle in its canonical spelling. Each line stays at its place and keeps its comment, so each number of a line
-/// stays what it was. What is written is accepted exactly where the bundle is, with the same load, and is refused at the same
-/// line by the same rule. The bundle is refused here where rule 1 or 2 refuses it.
+/// A bundle in its canonical spelling. Each line stays at its place and keeps its comment, so each
+/// number of a line stays what it was. What is written is accepted exactly where the bundle is,
+/// with the same load, and is refused at the same line by the same rule. The bundle is refused here
+/// where rule 1 or 2 refuses it.
 pub fn format_bundle(alloc: Global, bytes: &[u8]) -> Result<Vec<u8>, FormatFault>
     requires { length bytes.now ≤ LONGEST_TEXT }
     ensures formatted { IfOk result (λ text. IsFormatted bytes.now text.items) }

@@ -2,7 +2,8 @@
 ghost use Rattle.std.specs.Prelude.{◌≡◌};
 ghost use Rattle.bundle_format.specs.Statuses.{exit_status};
 
-/// How a call ended, in the order of the exit statuses. They are numbered as those of `redleaf` are.
+/// How a call ended, in the order of the exit statuses. They are numbered as those of `redleaf`
+/// are.
 #[derive(Clone, Copy, Debug, PartialEq, Eq)]
 pub enum Status {
     /// 0: the whole formatted bundle was written.
@@ -19,7 +20,8 @@ pub enum Status {
     Memory,
     /// 7: the input is longer than a bundle may be. Nothing was written.
     TooLong,
-    /// 8: as it would be written, a line or the bundle is longer than it may be. Nothing was written.
+    /// 8: as it would be written, a line or the bundle is longer than it may be. Nothing was
+    /// written.
     TooWide,
 }
 

@@ -11,8 +11,9 @@ use rl_defs::LoadFault;
 use rl_defs::bundle::Bundle;
 use std::alloc::Global;
 
-/// Checks the names of a bundle, part by part in the order of the text: the first line that gives a name again (rule 3), or that names
-/// what nothing declares (rule 4). Of both at one line it is rule 3.
+/// Checks the names of a bundle, part by part in the order of the text: the first line that gives a
+/// name again (rule 3), or that names what nothing declares (rule 4). Of both at one line it is
+/// rule 3.
 pub fn check_names(alloc: Global, bundle: &Bundle) -> Result<(), LoadFault>
     requires ordered { IsOrdered bundle.now }
     ensures { Answers (FailsBundleNames bundle.now) (λ _. Unit {0}) result }

@@ -30,8 +30,9 @@ pub struct Scripts {
     pub bound: Names,
 }
 
-/// Checks the names in the clients: the first line that gives a client's name again or binds a script name again in its client (rule 3), or
-/// that names a struct, a target, or a script name that no earlier line of its client binds (rule 4).
+/// Checks the names in the clients: the first line that gives a client's name again or binds a
+/// script name again in its client (rule 3), or that names a struct, a target, or a script name
+/// that no earlier line of its client binds (rule 4).
 pub fn check_client_names(alloc: Global, bundle: &Bundle) -> Result<(), LoadFault>
     requires ordered { IsOrdered bundle.now }
     ensures { Answers (FailsClientNames bundle.now) (λ _. Unit {0}) result }
@@ -142,7 +143,8 @@ fn pass_no_name(bound: &Names, args: &[ScriptArgText]) -> bool
     one_passes_no_name(bound, args)
 }
 
-// Whether a line names what nothing declares, or a script name that no earlier line of its client binds.
+// Whether a line names what nothing declares, or a script name that no earlier line of its client
+// binds.
 pub(crate) fn uses_nothing(usable: &Usable, scripts: &Scripts, form: &ClientLine) -> bool
     ensures { result ≡ uses_nothing usable.now scripts.now form.now }
 {

@@ -12,7 +12,8 @@ use rl_defs::code::{DomainLine, HeadItem, HeadKind, Instr};
 use rl_defs::name::Name;
 use std::alloc::{AllocError, Global};
 
-/// The names that the lines so far have given: of domains; of slots, imports and functions of the domain; of labels of the function.
+/// The names that the lines so far have given: of domains; of slots, imports and functions of the
+/// domain; of labels of the function.
 #[derive(Drop)]
 pub struct DomainScopes {
     domains: ScopeNames,
@@ -36,7 +37,8 @@ impl DomainScopes {
         }
     }
 
-    /// Begins the next domain, which may give the names of another's slots, imports, functions and labels again.
+    /// Begins the next domain, which may give the names of another's slots, imports, functions and
+    /// labels again.
     pub fn begin(&mut self)
         ensures { self.new ≡ at_domain self.old.domains }
     {
@@ -65,7 +67,8 @@ impl DomainScopes {
         ))
     }
 
-    // Takes one line more, and tells whether it gives a name again. Most lines are code, which gives none.
+    // Takes one line more, and tells whether it gives a name again. Most lines are code, which
+    // gives none.
     fn pass(&mut self, line: &DomainLine) -> Result<bool, AllocError>
         requires { HasSpace self.old }
         ensures behind { OnOk result (self.new ≡ declared_behind line.now self.old) }
@@ -159,7 +162,8 @@ fn is_any_unknown(structs: &Names, traits: &Names, items: &[HeadItem]) -> bool
         .any(|item| is_kind_unknown(structs, traits, &item.kind))
 }
 
-// Whether the line names a struct or trait that nothing declares, or a function that the trait has no method for.
+// Whether the line names a struct or trait that nothing declares, or a function that the trait has
+// no method for.
 fn names_unknown(structs: &Names, traits: &Names, methods: &Names, line: &DomainLine) -> bool
     ensures { result ≡ names_unknown structs.now traits.now methods.now line.now }
 {

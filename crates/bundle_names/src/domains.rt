@@ -13,8 +13,8 @@ use rl_defs::bundle::Bundle;
 use rl_defs::code::DomainText;
 use std::alloc::Global;
 
-/// Checks the names of the domains: the first line that gives a name which was given before (rule 3), or uses a struct, a trait or
-/// a method that nothing declares (rule 4).
+/// Checks the names of the domains: the first line that gives a name which was given before (rule
+/// 3), or uses a struct, a trait or a method that nothing declares (rule 4).
 pub fn check_domains(alloc: Global, bundle: &Bundle) -> Result<(), LoadFault>
     requires { IsOrdered bundle.now }
     ensures { Answers (FailsDomainNames bundle.now) (λ _. Unit {0}) result }

@@ -12,7 +12,8 @@ use rl_defs::bundle::PlanLine;
 use rl_defs::name::Name;
 use std::alloc::{AllocError, Global};
 
-/// What lines of the plan gave so far. No name has a dot in it, so a bound import is kept as the names before and behind the dot.
+/// What lines of the plan gave so far. No name has a dot in it, so a bound import is kept as the
+/// names before and behind the dot.
 #[derive(Drop)]
 pub struct Given {
     pub targets: Names,

@@ -10,7 +10,8 @@ use name_tables::names::Names;
 use rl_defs::idl::{Base, IdlLine, Param, ResultText, TypeText};
 use std::alloc::{AllocError, Global};
 
-/// The names that the lines so far have given: structs and traits, and the fields and methods of the struct or trait that is open.
+/// The names that the lines so far have given: structs and traits, and the fields and methods of
+/// the struct or trait that is open.
 #[derive(Drop)]
 pub struct InterfaceScopes {
     declared: ScopeNames,

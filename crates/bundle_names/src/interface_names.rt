@@ -119,7 +119,8 @@ fn put_methods(
     }
 }
 
-// The names of the methods of each trait. No line is looked at more than twice, since the lines of two traits are apart.
+// The names of the methods of each trait. No line is looked at more than twice, since the lines of
+// two traits are apart.
 fn method_tables(alloc: Global, lines: &[Numbered<IdlLine>]) -> Result<List<Names>, AllocError>
     requires { length lines.now < 2 ^ 32 }
     ensures { IfOk result (λ tables. tables ≡ method_tables lines.now) }

@@ -13,7 +13,8 @@ use rl_defs::idl::{Idl, IdlLine};
 use rl_defs::name::Name;
 use std::alloc::{AllocError, Global};
 
-// Adds a name, where there is one. A table counts its names in 32 bits; more are more than memory has room for.
+// Adds a name, where there is one. A table counts its names in 32 bits; more are more than memory
+// has room for.
 fn add(names: &mut Names, name: Option<Name>) -> Result<(), AllocError>
     ensures { OnOk result (names.new ≡ names.old ++ option_to_list name) }
 {
@@ -67,8 +68,8 @@ pub fn trait_names(alloc: Global, lines: &[Numbered<IdlLine>]) -> Result<Names, 
     Ok(names)
 }
 
-/// Checks the names of an interface part: the first line that gives a name which was given before (rule 3), or uses one that nothing
-/// declares (rule 4).
+/// Checks the names of an interface part: the first line that gives a name which was given before
+/// (rule 3), or uses one that nothing declares (rule 4).
 pub fn check_interfaces(alloc: Global, idl: &Idl) -> Result<(), LoadFault>
     requires few { length idl.now.lines < 2 ^ 32 }
     requires rises { Rises idl.now.lines }

@@ -14,7 +14,8 @@ use rl_defs::list::List;
 use rl_defs::name::Name;
 use std::alloc::{AllocError, Global};
 
-/// Adds a name, and says whether it was there. A table counts its names in 32 bits; more are more than memory has room for.
+/// Adds a name, and says whether it was there. A table counts its names in 32 bits; more are more
+/// than memory has room for.
 pub fn add(names: &mut Names, name: &Name) -> Result<bool, AllocError>
     ensures added { OnOk result (names.new ≡ names.old ++ name.now ∷ []) }
     ensures again { IfOk result (λ again. again ≡ is_given names.old name.now) }
@@ -168,7 +169,8 @@ fn imports_kept(alloc: Global, is_kept: bool, domain: &DomainText) -> Result<Nam
     }
 }
 
-// The imports of the domains that are marked. A bundle may have many domains that no load names, and no table is made of theirs.
+// The imports of the domains that are marked. A bundle may have many domains that no load names,
+// and no table is made of theirs.
 fn imports_by_domain(
     alloc: Global,
     domains: &[DomainText],
@@ -244,8 +246,9 @@ fn client_names(alloc: Global, lines: &[Numbered<ClientLine>]) -> Result<Names, 
     Ok(names)
 }
 
-/// The names that lines of the plan may use. The imports stand by the number of their domain, and those of domains that no load names are
-/// left out; the domains that are loaded stand by the number of their load.
+/// The names that lines of the plan may use. The imports stand by the number of their domain, and
+/// those of domains that no load names are left out; the domains that are loaded stand by the
+/// number of their load.
 #[derive(Drop)]
 pub struct Known {
     pub domains: Names,
@@ -275,7 +278,8 @@ impl Known {
         })
     }
 
-    // The imports of the domain of the load of this name, where the load and the domain are declared.
+    // The imports of the domain of the load of this name, where the load and the domain are
+    // declared.
     fn imports_of_load(&self, load: &Name) -> Option<&Names>
         ensures { option_copied result ≡ imports_of_load self.now load.now }
     {

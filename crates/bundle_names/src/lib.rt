@@ -1,6 +1,7 @@
 //! Rules 3 and 4 in a bundle: names that are given twice, and names that nothing declares.
 //!
-//! [`check_names`] checks the interfaces, the domains, the plan and the clients, in the order of the text.
+//! [`check_names`] checks the interfaces, the domains, the plan and the clients, in the order of
+//! the text.
 #![tactic(auto)]
 
 mod check;

@@ -12,8 +12,9 @@ use rl_defs::LoadFault;
 use rl_defs::bundle::{Bundle, PlanLine};
 use std::alloc::Global;
 
-/// Checks the names in the plan: the first line that gives a load's, a shadow's or another name of the plan again (rule 3), or that names
-/// a domain, a load, an import, a target or a client that nothing declares (rule 4).
+/// Checks the names in the plan: the first line that gives a load's, a shadow's or another name of
+/// the plan again (rule 3), or that names a domain, a load, an import, a target or a client that
+/// nothing declares (rule 4).
 pub fn check_plan_names(alloc: Global, bundle: &Bundle) -> Result<(), LoadFault>
     requires ordered { IsOrdered bundle.now }
     ensures { Answers (FailsPlanNames bundle.now) (λ _. Unit {0}) result }

@@ -20,7 +20,8 @@ pub enum Role {
     Ends,
 }
 
-/// The names of a scope, which is open or isn't. Where it ends their memory is kept, for the next scope of its kind.
+/// The names of a scope, which is open or isn't. Where it ends their memory is kept, for the next
+/// scope of its kind.
 #[derive(Drop)]
 pub struct ScopeNames {
     names: Names,
@@ -84,7 +85,8 @@ impl ScopeNames {
     }
 }
 
-/// Takes a line into a scope, which is open or isn't, and tells whether the line gives a name that the scope has.
+/// Takes a line into a scope, which is open or isn't, and tells whether the line gives a name that
+/// the scope has.
 pub fn pass(scope: &mut ScopeNames, role: Role) -> Result<bool, AllocError>
     requires room { names_in scope.old < 2 ^ 32 - 1 }
     ensures behind { OnOk result (scope.new ≡ behind role scope.old) }
@@ -104,7 +106,8 @@ pub fn pass(scope: &mut ScopeNames, role: Role) -> Result<bool, AllocError>
     }
 }
 
-/// The lower of the rules 3 and 4 that fails at a line which gives a name again, or uses one that nothing declares.
+/// The lower of the rules 3 and 4 that fails at a line which gives a name again, or uses one that
+/// nothing declares.
 pub fn rule_when(repeats: bool, unknown: bool) -> Option<u8>
     ensures { result ≡ rule_when repeats unknown }
 {

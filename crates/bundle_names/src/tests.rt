@@ -33,7 +33,8 @@ fn name(bytes: &[u8]) -> Result<Name, Fail> {
     Ok(Name::read(bytes).ok_or("no name")?)
 }
 
-// The type that is written so: `a` for a number, an array of pointers round a struct, and each base that names something.
+// The type that is written so: `a` for a number, an array of pointers round a struct, and each base
+// that names something.
 fn ty(alloc: Global, word: &[u8]) -> Result<TypeText, Fail> {
     let mut wraps = List::new(alloc);
     let base = match word {
@@ -70,7 +71,8 @@ fn method(alloc: Global, of: &[u8], names: &[&[u8]], types: &[&[u8]]) -> Result<
     })
 }
 
-// A line: `+P` begins a struct, `=T` a trait, `}` ends it, `#` marks a method, `fm` is a method, any other word a field of a type.
+// A line: `+P` begins a struct, `=T` a trait, `}` ends it, `#` marks a method, `fm` is a method,
+// any other word a field of a type.
 fn line(alloc: Global, word: &[u8]) -> Result<IdlLine, Fail> {
     match word {
         [b'+', of, ..] => Ok(IdlLine::Struct(name(&[*of])?)),

@@ -98,8 +98,8 @@ fn between(lines: &[Line], start: usize, end: usize) -> &[Line]
     &lines[start..end]
 }
 
-/// Cuts a part off where its header stands next: its lines are those up to the next header, or the end. Else the part is missing
-/// there, and has no lines.
+/// Cuts a part off where its header stands next: its lines are those up to the next header, or the
+/// end. Else the part is missing there, and has no lines.
 pub(crate) fn part<'a>(
     buffer: &mut Vec<Lexeme>,
     bytes: &[u8],

@@ -80,7 +80,8 @@ fn whole_header(left: &mut Cursor<'_>) -> Result<Header, Stop>
     }
 }
 
-/// What a line is. It is refused by rule 1 exactly where it breaks a sentence on lines and tokens. The buffer is for its lexemes.
+/// What a line is. It is refused by rule 1 exactly where it breaks a sentence on lines and tokens.
+/// The buffer is for its lexemes.
 pub(crate) fn look(buffer: &mut Vec<Lexeme>, bytes: &[u8], line: &Line) -> Result<Sight, LoadFault>
     requires { IsWithin bytes.now line.now }
     ensures { Sees line.now.number (text_of bytes.now line.now) result }
@@ -118,7 +119,8 @@ pub fn begins_with_bracket(text: &[u8]) -> bool
     }
 }
 
-/// The header that a line is, if it is one. Most lines are told by one byte, and their tokens aren't read.
+/// The header that a line is, if it is one. Most lines are told by one byte, and their tokens
+/// aren't read.
 pub(crate) fn header_in(
     buffer: &mut Vec<Lexeme>,
     bytes: &[u8],

@@ -90,9 +90,10 @@ fn take_clients(
     read_clients(alloc, bytes, inside)
 }
 
-/// The bundle that a text is, by its lines. A part that is missing has no lines. It is refused at the first line at which rule 1 or 2
-/// fails, by the lower of them: in a part as the part's reader says; before the first header where a line has tokens, or can have none;
-/// and at a header that stands behind itself or behind one that it should stand before.
+/// The bundle that a text is, by its lines. A part that is missing has no lines. It is refused at
+/// the first line at which rule 1 or 2 fails, by the lower of them: in a part as the part's reader
+/// says; before the first header where a line has tokens, or can have none; and at a header that
+/// stands behind itself or behind one that it should stand before.
 pub fn read_bundle(alloc: Global, bytes: &[u8], lines: &[Line]) -> Result<Bundle, LoadFault>
     requires texts { map (text_of bytes.now) lines.now ≡ lines_of bytes.now }
     requires numbered { AreNumbered bytes.now 1 lines.now }

@@ -3,7 +3,8 @@ ghost use Rattle.rl_defs.specs.BundleForms.{IsPlanLine, IsClientLine};
 ghost use Rattle.rl_defs.specs.BundleParts.{plan_part, client_part};
 ghost use Rattle.rl_text.specs.Forms.{OneForm, SkippedIsNoForm, OnePart};
 
-/// No two forms of the plan share a spelling, and none of the clients do; a line without tokens is no form.
+/// No two forms of the plan share a spelling, and none of the clients do; a line without tokens is
+/// no form.
 pub fn one_form()
     ensures plan { OneForm IsPlanLine }
     ensures plan_skipped { SkippedIsNoForm IsPlanLine }

@@ -5,7 +5,8 @@ use rl_text::line::lines;
 use std::alloc::Global;
 use std::test::Fail;
 
-// A load that is bound, calls and a loan between three of them, a shadow that is killed, two loads that wait for each other, files.
+// A load that is bound, calls and a loan between three of them, a shadow that is killed, two loads
+// that wait for each other, files.
 const PLANS: [&[u8]; 6] = [
     b"load calc = Calc\n",
     b"load b = B\nload a = A\nbind a.next = b\n",

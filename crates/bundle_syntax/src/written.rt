@@ -24,8 +24,8 @@ pub(crate) trait Written: Drop {
         ensures { result ≡ depth_of self.now };
 }
 
-/// Puts lines last, each with four blanks for each block that is open round it, and a line feed. After `AllocError` some of them may
-/// stand there.
+/// Puts lines last, each with four blanks for each block that is open round it, and a line feed.
+/// After `AllocError` some of them may stand there.
 pub(crate) fn put_lines<F: Written>(
     alloc: Global,
     bytes: &mut Vec<u8>,

@@ -43,8 +43,8 @@ fn count_of_bound(command: &Command) -> usize
     }
 }
 
-/// Each of the names of a command holds the result at its place. A result without a name is let go, and a name without a result keeps what
-/// it holds.
+/// Each of the names of a command holds the result at its place. A result without a name is let go,
+/// and a name without a result keeps what it holds.
 pub fn bind(held: &mut [Option<Value>], names: &[u32], results: &[Value])
     ensures { held.new ≡ bind names.now results.now held.old }
 {

@@ -8,7 +8,8 @@ use std::alloc::{AllocError, Global};
 use std::process::Abort;
 use std::test::Fail;
 
-// A client that makes an object, lends it and moves it in one call with one result, and shows the result.
+// A client that makes an object, lends it and moves it in one call with one result, and shows the
+// result.
 fn client(alloc: Global) -> Result<ClientRow, AllocError> {
     let mut args = List::new(alloc);
     args.push(ScriptArg::Lent(0))?;

@@ -18,8 +18,9 @@ use rl_defs::values::Value;
 use std::alloc::{AllocError, Global};
 use std::marker::Model;
 
-/// A client's thread beside its stack: its fuel, the place of the next command in the script, what the script's names hold, and whether it
-/// is done. Contracts see the thread of the machine's state.
+/// A client's thread beside its stack: its fuel, the place of the next command in the script, what
+/// the script's names hold, and whether it is done. Contracts see the thread of the machine's
+/// state.
 #[derive(Debug, Drop)]
 pub struct Thread {
     fuel: u32,
@@ -71,7 +72,8 @@ impl Thread {
         self.done
     }
 
-    /// What a name of the script holds. None where it holds nothing, or where the script has no such name.
+    /// What a name of the script holds. None where it holds nothing, or where the script has no
+    /// such name.
     pub fn name(&self, k: u32) -> Option<Value>
         ensures { result ≡ name_held self.now.names k }
     {
@@ -127,7 +129,8 @@ impl Thread {
         }
     }
 
-    /// The next command of the script of client `t`. None exactly where that script has ended, or there is no such client.
+    /// The next command of the script of client `t`. None exactly where that script has ended, or
+    /// there is no such client.
     pub fn command<'a>(&self, load: &'a Load, t: u32) -> Option<&'a Command>
         ensures { option_copied result ≡ slice_get (commands_of (row load.now.clients t)) self.now.place }
     {
@@ -161,7 +164,8 @@ impl Thread {
         names::set(self.names.as_mut_slice(), k, None);
     }
 
-    /// The names among the arguments that hold an object hold nothing any more: the call moves those objects.
+    /// The names among the arguments that hold an object hold nothing any more: the call moves
+    /// those objects.
     pub fn give_up(&mut self, args: &[ScriptArg])
         ensures { self.new ≡ record self.old { names = given_up_names args.now self.old.names } }
     {

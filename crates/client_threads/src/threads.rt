@@ -15,8 +15,8 @@ use rl_defs::values::Value;
 use std::alloc::{AllocError, Global};
 use std::marker::Model;
 
-/// The threads of all clients, by their numbers from 1. Contracts see them as a list. Where a client of a number isn't there, a call that
-/// would change its thread changes nothing.
+/// The threads of all clients, by their numbers from 1. Contracts see them as a list. Where a
+/// client of a number isn't there, a call that would change its thread changes nothing.
 #[derive(Debug, Drop)]
 pub struct Threads {
     rows: Vec<Thread>,
@@ -100,8 +100,8 @@ impl Threads {
         self.rows[t as usize - 1].unbind(k);
     }
 
-    /// The names among the arguments that hold an object hold nothing any more: the call of client `t` moves those objects. Nothing else
-    /// changes.
+    /// The names among the arguments that hold an object hold nothing any more: the call of client
+    /// `t` moves those objects. Nothing else changes.
     pub fn give_up(&mut self, t: u32, args: &[ScriptArg])
         ensures { self.new
             ≡ change_row self.old t (λ x. record x { names = given_up_names args.now x.names }) (row self.old t) }
@@ -112,7 +112,8 @@ impl Threads {
         self.rows[t as usize - 1].give_up(args);
     }
 
-    /// The command of client `t` is done: its names hold the results, and the next command comes. Nothing else changes.
+    /// The command of client `t` is done: its names hold the results, and the next command comes.
+    /// Nothing else changes.
     pub fn end_command(&mut self, t: u32, names: &[u32], results: &[Value])
         requires { (x : Row) → row self.old t ≡ Some x → x.place + 1 < 2 ^ 32 }
         ensures { self.new ≡ change_row self.old t

@@ -19,7 +19,8 @@ use rl_defs::checked::CheckedDomain;
 use rl_defs::code::{CallArg, DomainLine, Instr, Register};
 use rl_defs::tables::Tables;
 
-/// What a frame of domain code would do next: an action of which no more is kept than code can ask for. Contracts speak of it as the
+/// What a frame of domain code would do next: an action of which no more is kept than code can ask
+/// for. Contracts speak of it as the
 /// `Action` that it is, by `action_of`.
 #[derive(Debug, Drop)]
 pub enum Act {

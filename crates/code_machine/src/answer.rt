@@ -21,9 +21,10 @@ use rl_defs::checked::CheckedDomain;
 use rl_defs::code::{CallArg, DomainLine, HeadItem, Instr, Register};
 use rl_defs::values::Value;
 
-/// A frame goes on from an answer. What was made, taken or returned stands in its registers, and what was given up has left them; it
-/// stands at the next line, or, where its call failed, behind the head of the call's label, with the call's code. A frame that waited
-/// for its call has given up the objects that it moved already.
+/// A frame goes on from an answer. What was made, taken or returned stands in its registers, and
+/// what was given up has left them; it stands at the next line, or, where its call failed, behind
+/// the head of the call's label, with the call's code. A frame that waited for its call has given
+/// up the objects that it moved already.
 pub fn take_answer<N: Drop>(domain: &CheckedDomain, frame: &mut Frame<N>, answer: &Answer)
     requires { Awaits domain.now (stand_of frame.old.body) answer.now }
     ensures goes_on { (i : AnInstr) → StandsAt domain.now i (stand_of frame.old.body) →
@@ -43,8 +44,8 @@ pub fn take_answer<N: Drop>(domain: &CheckedDomain, frame: &mut Frame<N>, answer
     }
 }
 
-/// As `take_answer`, for a line and registers that need not stand in a frame: for an answer to register work that is done beside the
-/// machine.
+/// As `take_answer`, for a line and registers that need not stand in a frame: for an answer to
+/// register work that is done beside the machine.
 pub fn take_answer_in(
     domain: &CheckedDomain,
     line: &mut u32,
@@ -68,8 +69,9 @@ pub fn take_answer_in(
     *line = behind(domain, *line, registers, answer);
 }
 
-/// A frame at a call's line waits for the call: the objects that the call moves leave its registers. At another instruction those that
-/// the instruction moves would leave, and where no instruction stands nothing changes.
+/// A frame at a call's line waits for the call: the objects that the call moves leave its
+/// registers. At another instruction those that the instruction moves would leave, and where no
+/// instruction stands nothing changes.
 pub fn wait_for_call(domain: &CheckedDomain, line: u32, registers: &mut Registers)
     ensures { registers.new ≡ all_given_up (option_map_or moved (instr_at domain.now line) []) registers.old }
 {

@@ -15,8 +15,8 @@ use rl_defs::checked::CheckedDomain;
 use rl_defs::code::Register;
 use rl_defs::values::Value;
 
-/// The body of a frame that begins a method of the domain's trait, by the method's number: at its function's first line, with the
-/// arguments in `r0` upwards.
+/// The body of a frame that begins a method of the domain's trait, by the method's number: at its
+/// function's first line, with the arguments in `r0` upwards.
 pub fn body_at_entry<N: Drop>(domain: &CheckedDomain, method: u32, args: &[Arg]) -> FrameBody<N>
     requires { Enters domain.now method args.now }
     ensures begins { (place : ℕ) → entry_at domain.now method ≡ Some place → result

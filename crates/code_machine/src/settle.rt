@@ -17,8 +17,9 @@ use machine_defs::frame::{Frame, FrameBody, View};
 use machine_defs::values::Cause;
 use rl_defs::checked::CheckedDomain;
 
-/// The first action or trap of a frame, from the line where it stands, with this fuel and so many live objects. The frame and the fuel
-/// go on to it: each instruction before it costs 1, and the action itself isn't paid yet. At fuel 0 it is the trap `fuel`.
+/// The first action or trap of a frame, from the line where it stands, with this fuel and so many
+/// live objects. The frame and the fuel go on to it: each instruction before it costs 1, and the
+/// action itself isn't paid yet. At fuel 0 it is the trap `fuel`.
 pub fn settle<V: View, N: Drop>(
     domain: &CheckedDomain,
     frame: &mut Frame<N>,
@@ -41,8 +42,8 @@ pub fn settle<V: View, N: Drop>(
     }
 }
 
-/// As `settle`, for a line and registers that need not stand in a frame: for register work that is done beside the machine, or goes on
-/// from there.
+/// As `settle`, for a line and registers that need not stand in a frame: for register work that is
+/// done beside the machine, or goes on from there.
 pub fn settle_in<V: View>(
     domain: &CheckedDomain,
     line: &mut u32,

@@ -13,7 +13,8 @@ fn method(tables: &Tables, of: u32, number: u32) -> Option<&MethodRow>
     tables.traits.get(of as usize)?.methods.get(number as usize)
 }
 
-/// The kinds of the parameters of a trait's method, by their numbers. None where there is no such method.
+/// The kinds of the parameters of a trait's method, by their numbers. None where there is no such
+/// method.
 pub fn params(tables: &Tables, of: u32, number: u32) -> &[Kind]
     ensures { result.now ≡ params_of (slice_get (methods_of tables.now of) number) }
 {
@@ -23,7 +24,8 @@ pub fn params(tables: &Tables, of: u32, number: u32) -> &[Kind]
     }
 }
 
-/// The kinds of the results of a trait's method, by their numbers. None where there is no such method.
+/// The kinds of the results of a trait's method, by their numbers. None where there is no such
+/// method.
 pub fn results(tables: &Tables, of: u32, number: u32) -> &[Kind]
     ensures { result.now ≡ results_of (slice_get (methods_of tables.now of) number) }
 {

@@ -1,4 +1,5 @@
-//! One instruction that works on registers, by the table of the instructions. Those that act are in `act`.
+//! One instruction that works on registers, by the table of the instructions. Those that act are in
+//! `act`.
 ghost use Rattle.std.specs.Prelude.{◌≡◌, ℕ, ◌==◌, is_some, if◌then◌else◌};
 ghost use Rattle.machine_defs.specs.declared.values.Cause.TheVariants as cause;
 ghost use Rattle.rl_defs.specs.declared.values.Value.TheVariants as value;

@@ -136,8 +136,9 @@ fn suits_instr(
     }
 }
 
-/// Whether an answer fits the instruction that a frame stands at. What is made is an object of the struct; what is taken stands in the
-/// slot, or hangs in the cell; and what is returned is of the method's results.
+/// Whether an answer fits the instruction that a frame stands at. What is made is an object of the
+/// struct; what is taken stands in the slot, or hangs in the cell; and what is returned is of the
+/// method's results.
 pub fn answer_fits(
     domain: &CheckedDomain,
     view: &MemoryView,

@@ -32,7 +32,8 @@ fn is_native(lines: &[Numbered<DomainLine>]) -> bool
     lines.iter().any(|line| names_native(&line.form))
 }
 
-/// The number of the method of a name of the domain's trait, where the arguments are of its parameters.
+/// The number of the method of a name of the domain's trait, where the arguments are of its
+/// parameters.
 pub fn method_for(
     domain: &CheckedDomain,
     view: &MemoryView,
@@ -54,8 +55,8 @@ pub fn method_for(
     }
 }
 
-/// The body of a frame that begins a method of the domain, by the method's name. None where the domain has a native body or no such method,
-/// or the arguments don't fit.
+/// The body of a frame that begins a method of the domain, by the method's name. None where the
+/// domain has a native body or no such method, or the arguments don't fit.
 pub fn begin(
     domain: &CheckedDomain,
     view: &MemoryView,

@@ -107,8 +107,9 @@ fn all_suit(view: &MemoryView, domain: &CheckedDomain) -> bool
         && binds_suit(view, domain)
 }
 
-/// Whether a view fits a domain: it has at most 4,096 words, each object has the cells of its struct, what hangs in a cell and what a slot
-/// holds is of its struct, and what is bound to an import is of its trait.
+/// Whether a view fits a domain: it has at most 4,096 words, each object has the cells of its
+/// struct, what hangs in a cell and what a slot holds is of its struct, and what is bound to an
+/// import is of its trait.
 pub fn view_fits(view: &MemoryView, domain: &CheckedDomain) -> bool
     ensures exact { result ≡ suits view.now domain.now }
     ensures fits { result ≡ true → FitsSight (types_of view.now) domain.now (sight_of view.now) }

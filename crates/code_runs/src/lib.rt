@@ -1,7 +1,8 @@
 //! Worked runs of frames of domain code, through the calls that the machine makes of it.
 //!
-//! A `MemoryView` is what a frame sees, as plain values. `begin` enters a method of a checked domain, `wants` tells what its frame wants, and
-//! `go_on` goes on from an answer. Views, arguments and answers are tested before they are used, so that the machine's calls may be made.
+//! A `MemoryView` is what a frame sees, as plain values. `begin` enters a method of a checked
+//! domain, `wants` tells what its frame wants, and `go_on` goes on from an answer. Views, arguments
+//! and answers are tested before they are used, so that the machine's calls may be made.
 #![tactic(auto)]
 
 pub mod answers;

@@ -99,7 +99,8 @@ pub fn methods_of(tables: &Tables, of: u32) -> &[MethodRow]
     }
 }
 
-/// The kinds of the results of a trait's method, by their numbers. None where there is no such method.
+/// The kinds of the results of a trait's method, by their numbers. None where there is no such
+/// method.
 pub fn results_of(tables: &Tables, of: u32, number: u32) -> &[Kind]
     ensures { result.now ≡ results_of (slice_get (methods_of tables.now of) number) }
 {

@@ -92,7 +92,8 @@ fn ends(act: &Act) -> bool
     matches!(act, Act::Trap(_) | Act::Ret(_))
 }
 
-/// The frame behind an answer to what it wants. None where the answer doesn't fit, or the frame wants none since it traps or returns.
+/// The frame behind an answer to what it wants. None where the answer doesn't fit, or the frame
+/// wants none since it traps or returns.
 pub fn go_on(
     domain: &CheckedDomain,
     view: &MemoryView,

@@ -1,4 +1,5 @@
-//! What the tests of runs share: a bundle round one function, a view, and the reading of arguments and answers.
+//! What the tests of runs share: a bundle round one function, a view, and the reading of arguments
+//! and answers.
 use crate::enter::begin;
 use crate::fits::view_fits;
 use crate::run::{Bounds, frame_of, go_on, wants};
@@ -15,7 +16,8 @@ use rl_defs::values::Value;
 use std::alloc::{AllocError, Global};
 use std::test::Fail;
 
-/// Struct 0 is `Item`, 1 `Bag`, 2 `Block`; trait 0 is `Peer`, 1 `Work`. Slot 0 is `full`, slot 1 `empty`.
+/// Struct 0 is `Item`, 1 `Bag`, 2 `Block`; trait 0 is `Peer`, 1 `Work`. Slot 0 is `full`, slot 1
+/// `empty`.
 const HEAD: &str =
     "[idl]\npub struct Item {\n    pub f: bool,\n    pub a: u8,\n    pub b: u16,\n    pub c: u32,\n    pub d: u64,\n}\npub struct Bag {\n    pub n: u64,\n    pub item: RRef<Item>,\n    pub other: RRef<Item>,\n}\npub struct Block {\n    pub w: [u64; 64],\n}\npub trait Peer {\n    fn ask(&self, a: u8, b: u64) -> RpcResult<u64>;\n    fn give(&self, item: RRef<Item>, look: &RRef<Item>, peer: &dyn Peer) -> RpcResult<(RRef<Item>, bool)>;\n    fn none(&self) -> RpcResult<()>;\n}\npub trait Work {\n    fn f(&self";
 
@@ -26,8 +28,9 @@ const KEPT: &str =
 
 const END: &str = "\n    }\n}\n";
 
-/// A run to be made, and what it says: how many words the domain has, the parameters and results of its method, the method's code, the
-/// arguments, the answers, the fuel, and how many objects are live all the while.
+/// A run to be made, and what it says: how many words the domain has, the parameters and results of
+/// its method, the method's code, the arguments, the answers, the fuel, and how many objects are
+/// live all the while.
 #[derive(Clone, Copy)]
 pub struct Case<'a> {
     pub words: &'a str,
@@ -92,7 +95,8 @@ fn block(alloc: Global) -> Result<SeenObject, Fail> {
     Ok(SeenObject { of: 2, cells })
 }
 
-// Objects 0, 1, 3 and 5 are items, 2 and 6 bags, and 4 is a block. 1 is in the full slot, 3 hangs in 2.
+// Objects 0, 1, 3 and 5 are items, 2 and 6 bags, and 4 is a block. 1 is in the full slot, 3 hangs
+// in 2.
 fn objects(alloc: Global) -> Result<List<SeenObject>, Fail> {
     let mut all = List::new(alloc);
     all.push(item(alloc, 0)?).map_err(|_| "memory")?;
@@ -107,7 +111,8 @@ fn objects(alloc: Global) -> Result<List<SeenObject>, Fail> {
     Ok(all)
 }
 
-/// Words 10, 11 and 12, eight blocks, target 1 bound to the import, and targets 0 and 1 of `Peer` and 2 of `Work`.
+/// Words 10, 11 and 12, eight blocks, target 1 bound to the import, and targets 0 and 1 of `Peer`
+/// and 2 of `Work`.
 pub fn world(alloc: Global) -> Result<MemoryView, Fail> {
     let mut words = List::new(alloc);
     for word in 10u64..13 {
@@ -227,8 +232,8 @@ enum RunFault {
     Answer,
 }
 
-// What a frame wants from the entry of a method on, a line for each action or trap, where each action but the last is given the next
-// answer. An action costs 1, as the machine charges it.
+// What a frame wants from the entry of a method on, a line for each action or trap, where each
+// action but the last is given the next answer. An action costs 1, as the machine charges it.
 fn run(
     alloc: Global,
     domain: &CheckedDomain,
@@ -289,7 +294,8 @@ fn said_in(alloc: Global, view: &MemoryView, case: Case<'_>) -> Result<String, F
     }
 }
 
-/// Fails at the first case that says something else in this view than it has to, and tells its place, from 0, and what it says.
+/// Fails at the first case that says something else in this view than it has to, and tells its
+/// place, from 0, and what it says.
 pub fn all_say_in(alloc: Global, view: &MemoryView, cases: &[Case<'_>]) -> Result<(), Fail> {
     for place in 0..cases.len() {
         let said = said_in(alloc, view, cases[place])?;

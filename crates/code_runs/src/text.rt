@@ -209,8 +209,9 @@ fn put_registers(out: &mut Vec<u8>, registers: &[Option<Value>]) -> Result<(), A
     Ok(())
 }
 
-/// Puts what a frame wants: the action or the trap, the fuel that is left, and each register that holds something. An object is `o` and
-/// its number, a target `t` and its number; structs, slots and methods are told by their numbers.
+/// Puts what a frame wants: the action or the trap, the fuel that is left, and each register that
+/// holds something. An object is `o` and its number, a target `t` and its number; structs, slots
+/// and methods are told by their numbers.
 pub fn put_wanted(out: &mut Vec<u8>, wanted: &Wanted) -> Result<(), AllocError>
     ensures { OnOk result (out.new.items ≡ out.old.items ++ wanted_text wanted.now) }
 {

@@ -24,8 +24,8 @@ pub struct SeenObject {
     pub cells: List<Cell>,
 }
 
-/// What a frame sees, and of which struct each object and of which trait each target is. An object's number is its place, from 0. Objects
-/// that are to be made stand here beforehand.
+/// What a frame sees, and of which struct each object and of which trait each target is. An
+/// object's number is its place, from 0. Objects that are to be made stand here beforehand.
 #[derive(Debug, Drop)]
 pub struct MemoryView {
     pub objects: List<SeenObject>,

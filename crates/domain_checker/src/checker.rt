@@ -22,8 +22,8 @@ use rl_defs::tables::{MethodRow, SharedTables};
 use std::alloc::{AllocError, Global};
 use std::marker::Model;
 
-/// A checker of domains whose names are looked up in one set of tables. It is made once, and no check goes over the tables. Contracts see
-/// the tables.
+/// A checker of domains whose names are looked up in one set of tables. It is made once, and no
+/// check goes over the tables. Contracts see the tables.
 #[derive(Drop)]
 pub struct Checker {
     tables: NamedTables,
@@ -44,7 +44,8 @@ struct Whole {
     entries: Vec<u32>,
 }
 
-// Where the body of the function of this name begins: behind its head. It is one more than the count of lines where there is no such function.
+// Where the body of the function of this name begins: behind its head. It is one more than the
+// count of lines where there is no such function.
 fn entry_of(scope: &Scope, name: &Name) -> u32
     ensures { result ≡ body_of_function scope.now.lines name.now }
 {
@@ -64,7 +65,8 @@ fn entries_of(alloc: Global, scope: &Scope, methods: &[MethodRow]) -> Result<Vec
     Ok(entries)
 }
 
-// What is kept beside lines that keep the rules, or the first line that one of the rules refuses, with the lowest of these rules there.
+// What is kept beside lines that keep the rules, or the first line that one of the rules refuses,
+// with the lowest of these rules there.
 fn kept_beside(
     alloc: Global,
     tables: &NamedTables,
@@ -92,8 +94,8 @@ impl Checker {
         Ok(Checker { tables })
     }
 
-    /// The domain of a text that keeps the rules, or the first line that one of the rules 30 to 37 refuses, with the lowest of these rules
-    /// there.
+    /// The domain of a text that keeps the rules, or the first line that one of the rules 30 to 37
+    /// refuses, with the lowest of these rules there.
     pub fn check(&self, alloc: Global, text: DomainText) -> Result<CheckedDomain, LoadFault>
         requires short { length text.lines < 2 ^ 31 }
         requires ordered { IsOneDomain text.lines }

@@ -135,7 +135,8 @@ pub fn has_shape(scope: &Scope, form: &DomainLine) -> bool
     }
 }
 
-/// Whether the traits of a native body and of its import have one struct where they are to have one.
+/// Whether the traits of a native body and of its import have one struct where they are to have
+/// one.
 pub fn has_one_struct(scope: &Scope, form: &DomainLine) -> bool
     ensures { result ≡ has_one_struct scope.now form.now }
 {

@@ -18,7 +18,8 @@ use std::alloc::{AllocError, Global};
 // So many bodies are looked for among the lines, and more in a table.
 const FEW: usize = 4;
 
-/// Names that a domain declares: the place of each among its kind, and the number of the struct or trait at each place.
+/// Names that a domain declares: the place of each among its kind, and the number of the struct or
+/// trait at each place.
 #[derive(Drop)]
 pub struct Declarations {
     pub places: NameTable,
@@ -118,7 +119,8 @@ fn bodies_of(
     Ok(bodies)
 }
 
-/// The same where more than a few bodies are looked for: where there are few, no table is worth its making.
+/// The same where more than a few bodies are looked for: where there are few, no table is worth its
+/// making.
 pub fn bodies_of_many(
     alloc: Global,
     lines: &[Numbered<DomainLine>],

@@ -154,7 +154,8 @@ fn kinds_behind_instr(scope: &Scope, kinds: &Kinds, instr: &Instr) -> Kinds
     next
 }
 
-// The kinds become those behind an instruction. Most instructions move no object and write one register at most.
+// The kinds become those behind an instruction. Most instructions move no object and write one
+// register at most.
 fn pass_instr(kinds: &mut Kinds, scope: &Scope, instr: &Instr)
     ensures { kinds.new ≡ after scope.now kinds.old instr.now }
 {

@@ -13,7 +13,8 @@ use std::marker::Model;
 #[derive(Drop)]
 pub struct Kinds {
     each: [RegKind; 32],
-    // Whether it is known that no register holds anything, as at a head that lists none. Then the registers aren't gone over.
+    // Whether it is known that no register holds anything, as at a head that lists none. Then the
+    // registers aren't gone over.
     bare: bool,
 }
 
@@ -155,7 +156,8 @@ pub fn leave_moved(kinds: &mut Kinds, instr: &Instr)
     }
 }
 
-// Whether a register holds an own object. It goes over all of them, since a loop without an early end takes several at a time.
+// Whether a register holds an own object. It goes over all of them, since a loop without an early
+// end takes several at a time.
 fn owns_any(kinds: &[RegKind; 32]) -> bool
     ensures { result ≡ fold (λ found k. found || is_own k) false kinds.now }
 {

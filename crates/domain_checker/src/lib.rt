@@ -1,5 +1,5 @@
-//! Domain code that keeps the ownership rules: each register has the kind that a line asks for, and no own object is lost (RedLeaf,
-//! section 3.1).
+//! Domain code that keeps the ownership rules: each register has the kind that a line asks for, and
+//! no own object is lost (RedLeaf, section 3.1).
 #![tactic(auto)]
 
 mod checker;

@@ -48,7 +48,8 @@ fn spares_written(kinds: &Kinds, instr: &Instr) -> bool
     }
 }
 
-// The same behind what the instruction moves. Only a `move` and a call move an object and write a register.
+// The same behind what the instruction moves. Only a `move` and a call move an object and write a
+// register.
 fn spares_unmoved(kinds: &Kinds, instr: &Instr) -> bool
     ensures { result ≡ list_all (spares (left kinds.now instr.now)) (written instr.now) }
 {
@@ -72,7 +73,8 @@ pub fn spares_objects(kinds: &Kinds, form: &DomainLine) -> bool
     }
 }
 
-// Whether no register holds an own object once those in these have left. Some `ret`s have no results.
+// Whether no register holds an own object once those in these have left. Some `ret`s have no
+// results.
 fn owns_nothing_behind(kinds: &Kinds, results: &[Register]) -> bool
     ensures { result ≡ owns_nothing (leave_all results.now kinds.now) }
 {
@@ -111,8 +113,8 @@ fn is_moved_from(kinds: &Kinds, register: Register, args: &[CallArg], from: usiz
     false
 }
 
-// Whether the arguments move no object twice. Each register whose object isn't moved again is another one, so no more than 33 of them are
-// looked for.
+// Whether the arguments move no object twice. Each register whose object isn't moved again is
+// another one, so no more than 33 of them are looked for.
 fn args_move_once(kinds: &Kinds, args: &[CallArg]) -> bool
     ensures { result ≡ are_distinct (owning kinds.now (passed args.now)) }
 {
@@ -191,7 +193,8 @@ fn moves_a_lent(kinds: &Kinds, args: &[CallArg], others: &[CallArg]) -> bool
     false
 }
 
-/// Whether no object is moved and lent in one call. It is asked where no object is moved twice, so that no more than 32 are looked for.
+/// Whether no object is moved and lent in one call. It is asked where no object is moved twice, so
+/// that no more than 32 are looked for.
 pub fn moves_or_lends(kinds: &Kinds, form: &DomainLine) -> bool
     ensures { result ≡ moves_or_lends kinds.now form.now }
 {

@@ -22,7 +22,8 @@ fn put_back(table: &mut NameTable, name: &Name, number: u32) -> Result<(), Alloc
     Ok(())
 }
 
-/// Notes a name with its number, unless it is there. Most names are new, so it is put first, and put back where it was there.
+/// Notes a name with its number, unless it is there. Most names are new, so it is put first, and
+/// put back where it was there.
 pub fn note(table: &mut NameTable, name: &Name, number: u32) -> Result<(), AllocError>
     ensures noted { let before = get (pointwise nat_eq) table.old in let after = get (pointwise nat_eq) table.new in
         OnOk result ((q : List ℕ) → after q ≡ noted before name.now number q) }

@@ -312,8 +312,8 @@ fn are_methods(tables: &NamedTables, shapes: &[MethodShape], rows: &[MethodRow])
     shapes.len() == rows.len() && suit_methods(tables, shapes, rows)
 }
 
-/// Whether the trait of a domain, and that of its native body's import, are of the body's shapes. `own` are the methods of the
-/// domain's trait, `theirs` those of the import's.
+/// Whether the trait of a domain, and that of its native body's import, are of the body's shapes.
+/// `own` are the methods of the domain's trait, `theirs` those of the import's.
 pub(crate) fn are_of_shape(
     tables: &NamedTables,
     body: Native,
@@ -415,7 +415,8 @@ fn has_one(role: Role, body: Native, own: &[MethodRow], theirs: &[MethodRow]) ->
     is_one(with_methods(role, found, import_shape(body), theirs))
 }
 
-/// Whether the traits of a domain and of its native body's import have one struct at the places that have to be of one.
+/// Whether the traits of a domain and of its native body's import have one struct at the places
+/// that have to be of one.
 pub(crate) fn have_one_struct(body: Native, own: &[MethodRow], theirs: &[MethodRow]) -> bool
     ensures { (d : Domain) → own_methods d ≡ own.now → import_methods d body ≡ theirs.now
         → result ≡ have_one_struct d body }

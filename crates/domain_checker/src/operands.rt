@@ -280,7 +280,8 @@ fn is_among_from(register: Register, others: &[Register], from: usize) -> bool
     false
 }
 
-// Each register that isn't among the later ones is another one, so no more than 33 of them are looked for.
+// Each register that isn't among the later ones is another one, so no more than 33 of them are
+// looked for.
 fn are_distinct(registers: &[Register]) -> bool
     ensures { result ≡ are_distinct registers.now }
 {

@@ -35,7 +35,8 @@ fn trait_of_kind(kind: RegKind) -> u32
     }
 }
 
-// The number of the struct, slot, import or method that an instruction names. A `ret` names the method of its function.
+// The number of the struct, slot, import or method that an instruction names. A `ret` names the
+// method of its function.
 fn number_named(here: &Here, instr: &Instr) -> u32
     ensures { result ≡ unwrap_or (number_named here.now.scope.now here.now.place here.now.kinds instr.now) 0 }
 {
@@ -55,7 +56,8 @@ fn number_named(here: &Here, instr: &Instr) -> u32
     }
 }
 
-// The trait of the interface that is called, or of the domain that returns, or the struct of the object whose cell is set.
+// The trait of the interface that is called, or of the domain that returns, or the struct of the
+// object whose cell is set.
 fn type_named(here: &Here, instr: &Instr) -> u32
     ensures { result ≡ unwrap_or (type_named here.now.scope.now here.now.kinds instr.now) 0 }
 {
@@ -67,7 +69,8 @@ fn type_named(here: &Here, instr: &Instr) -> u32
     }
 }
 
-// The way of a frame that goes to the label of an instruction before which the registers are of these kinds, or else another way.
+// The way of a frame that goes to the label of an instruction before which the registers are of
+// these kinds, or else another way.
 fn jump_way(
     ways: &Ways,
     emptied: &mut Vec<Register>,

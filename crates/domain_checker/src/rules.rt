@@ -86,8 +86,8 @@ fn from_32(here: &Here, form: &DomainLine) -> Option<u8>
     }
 }
 
-/// Whether a line is register work that names nothing, moves no object and goes to no label. Most lines are: they keep the rules from
-/// 32 on, and their rows name nothing.
+/// Whether a line is register work that names nothing, moves no object and goes to no label. Most
+/// lines are: they keep the rules from 32 on, and their rows name nothing.
 pub fn is_plain(form: &DomainLine) -> bool
     ensures { result ≡ is_plain form.now }
 {

@@ -13,7 +13,8 @@ use crate::ways::Ways;
 use rl_defs::LoadFault;
 use std::alloc::Global;
 
-/// What is kept beside the lines of a domain, or the first line that a rule refuses, with the lowest rule there.
+/// What is kept beside the lines of a domain, or the first line that a rule refuses, with the
+/// lowest rule there.
 pub fn scan(alloc: Global, scope: &Scope, ways: &Ways) -> Result<Kept, LoadFault>
     requires lines { ways.now.lines.now ≡ scope.now.lines }
     requires rises { LinesRise scope.now.lines }

@@ -15,7 +15,8 @@ use rl_defs::name::Name;
 use std::alloc::{AllocError, Global};
 use std::marker::Model;
 
-/// The lines of a domain and the tables that its names are looked up in, with look-ups. Contracts see the domain.
+/// The lines of a domain and the tables that its names are looked up in, with look-ups. Contracts
+/// see the domain.
 #[derive(Drop)]
 pub struct Scope<'a> {
     tables: &'a NamedTables,

@@ -1,4 +1,5 @@
-//! Ways through heads: for each place of a domain's lines, the line where control stands that comes there.
+//! Ways through heads: for each place of a domain's lines, the line where control stands that comes
+//! there.
 ghost use Rattle.std.specs.Prelude.{◌≡◌, ℕ, ◌^◌, ◌<◌, length, drop, fold, IfOk, OnOk, slice_range};
 ghost use Rattle.std.specs.List.{list_any};
 ghost use Rattle.rl_defs.specs.declared.tables.Tables.{Tables};
@@ -24,7 +25,8 @@ struct Run {
     listed: u32,
 }
 
-/// The ways through the heads of a domain's lines. They are found once, in one pass over the lines from the last to the first.
+/// The ways through the heads of a domain's lines. They are found once, in one pass over the lines
+/// from the last to the first.
 #[derive(Debug, Drop)]
 pub(crate) struct Ways<'a> {
     lines: &'a [Numbered<DomainLine>],
@@ -61,9 +63,9 @@ impl<'a> Ways<'a> {
         }
     }
 
-    /// The way of a frame that comes to a place with registers of these kinds. The registers that are emptied on the way are put last in
-    /// the pool: those that aren't empty and that a head on the way doesn't list. `AllocError` also where the pool has 2^32 - 32
-    /// registers or more.
+    /// The way of a frame that comes to a place with registers of these kinds. The registers that
+    /// are emptied on the way are put last in the pool: those that aren't empty and that a head on
+    /// the way doesn't list. `AllocError` also where the pool has 2^32 - 32 registers or more.
     pub(crate) fn way(
         &self,
         pool: &mut Vec<Register>,
@@ -189,7 +191,8 @@ fn put_emptied(pool: &mut Vec<Register>, kinds: &[RegKind; 32], set: u32) -> Res
     Ok(())
 }
 
-// The same of a set that mostly has all registers, since most lines are no heads, and of registers that may hold nothing: then none is put.
+// The same of a set that mostly has all registers, since most lines are no heads, and of registers
+// that may hold nothing: then none is put.
 fn put_unlisted(pool: &mut Vec<Register>, kinds: &Kinds, set: u32) -> Result<(), AllocError>
     ensures { OnOk result (Puts kinds.now set 32 pool.old.items pool.new.items) }
 {

@@ -16,8 +16,8 @@ pub fn one_part()
     ensures domains { OneCut }
 {}
 
-/// Where no rule refuses a part, each of its domains has the lines of one domain, in an order in which they may stand, numbered upwards. They
-/// are no more than the lines of the part.
+/// Where no rule refuses a part, each of its domains has the lines of one domain, in an order in
+/// which they may stand, numbered upwards. They are no more than the lines of the part.
 pub fn each_domain()
     ensures { EachStandsAlone }
 {}

@@ -155,8 +155,8 @@ fn after(block: Block, form: &DomainLine) -> Option<Block>
     }
 }
 
-// Whether a line with these bytes and those behind it surely belongs to the domain of the line before it: it isn't indented, and
-// doesn't begin as one that begins a domain.
+// Whether a line with these bytes and those behind it surely belongs to the domain of the line
+// before it: it isn't indented, and doesn't begin as one that begins a domain.
 fn stands_inside(rest: &[u8]) -> bool
     ensures { result ≡ stands_inside rest.now }
 {
@@ -184,7 +184,8 @@ fn behind(lines: &[Line], number: u32) -> &[Line]
     behind
 }
 
-// How many lines surely belong to the domain of the line before them, so that room for them is made at once.
+// How many lines surely belong to the domain of the line before them, so that room for them is made
+// at once.
 fn room(bytes: &[u8], behind: &[Line]) -> usize
     ensures { result ≡ prefix_len (goes_on bytes.now) behind.now }
 {
@@ -201,7 +202,8 @@ fn no_room(_line: Numbered<DomainLine>) -> AllocError {
     AllocError
 }
 
-// Puts a line last. Room is made first, and giving the line up stands apart, so that it is moved once and as a whole.
+// Puts a line last. Room is made first, and giving the line up stands apart, so that it is moved
+// once and as a whole.
 #[inline(always)]
 fn put_last(
     lines: &mut Vec<Numbered<DomainLine>>,
@@ -234,8 +236,8 @@ fn begin(
     Ok(())
 }
 
-// Puts one of these lines behind the lines so far. One that begins a domain begins a new one, and each other one belongs to
-// the last.
+// Puts one of these lines behind the lines so far. One that begins a domain begins a new one, and
+// each other one belongs to the last.
 fn put(
     alloc: Global,
     domains: &mut Vec<DomainText>,
@@ -261,8 +263,8 @@ fn put(
     }
 }
 
-// Puts one of these lines, that may stand behind the lines so far, behind them, and gives where it leads. The buffer is for its
-// lexemes.
+// Puts one of these lines, that may stand behind the lines so far, behind them, and gives where it
+// leads. The buffer is for its lexemes.
 fn take_line(
     alloc: Global,
     buffer: &mut Vec<Lexeme>,
@@ -289,9 +291,10 @@ fn take_line(
     Ok(next)
 }
 
-/// The domains of a domain part, each with its lines and their numbers, by the lines behind the part's header. It is refused at the
-/// first line at which rule 1 or 2 fails, by the lower of them: where a line is no form, where it may not stand behind the lines
-/// before it, and behind the last line where a block is open there.
+/// The domains of a domain part, each with its lines and their numbers, by the lines behind the
+/// part's header. It is refused at the first line at which rule 1 or 2 fails, by the lower of them:
+/// where a line is no form, where it may not stand behind the lines before it, and behind the last
+/// line where a block is open there.
 pub fn read_domains(
     alloc: Global,
     bytes: &[u8],

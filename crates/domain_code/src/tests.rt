@@ -69,7 +69,8 @@ fn worked(rt: HostRuntime) -> Result<(), Fail> {
     }
     let (out, _) = written(alloc, BARE_DRIVER)?;
     assert!(rt; out.as_slice() == DRIVER);
-    // A block that is left open, a line behind a `ret`, the first failing line, and there the lower rule.
+    // A block that is left open, a line behind a `ret`, the first failing line, and there the lower
+    // rule.
     let rows: [(&[u8], (u32, u8)); 4] = [
         (b"domain D: T {\nfn f {\n}\n", (4, 2)),
         (b"domain D: T {\nfn f {\nret\nret\n}\n}\n", (4, 2)),

@@ -504,7 +504,8 @@ fn put_lines(
     Ok(())
 }
 
-/// The canonical text of a domain: each line with four blanks for each block that is open round it, and a line feed.
+/// The canonical text of a domain: each line with four blanks for each block that is open round it,
+/// and a line feed.
 pub fn write_domain(alloc: Global, text: &DomainText) -> Result<Vec<u8>, AllocError>
     ensures canonical { IfOk result (λ v. v.items ≡ write_domain text.now.lines) }
     ensures again { IfOk result (λ v. IsReadAgain text.now.lines v.items) }

@@ -14,7 +14,8 @@ use rl_defs::list::List;
 use rl_defs::tables::SharedTables;
 use std::alloc::Global;
 
-/// The domains of these texts, or the first line that the rules 30 to 37 refuse, with the lowest of these rules there.
+/// The domains of these texts, or the first line that the rules 30 to 37 refuse, with the lowest of
+/// these rules there.
 pub fn check_domains(
     alloc: Global,
     tables: &SharedTables,

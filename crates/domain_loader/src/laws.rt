@@ -1,4 +1,5 @@
-//! What holds of accepted bundles, whoever reads them: a function with nothing to do, whose contract is a law.
+//! What holds of accepted bundles, whoever reads them: a function with nothing to do, whose
+//! contract is a law.
 ghost use Rattle.std.specs.Prelude.{◌≡◌, ℕ, List};
 ghost use Rattle.rl_defs.specs.declared.load.LoadRows.{LoadRows};
 ghost use Rattle.rl_defs.specs.Acceptance.{Accepted};

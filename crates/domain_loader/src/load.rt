@@ -37,9 +37,10 @@ fn load_rows(alloc: Global, bytes: &[u8]) -> Result<LoadRows, LoadFault>
     }
 }
 
-/// The load that a bundle stands for, by its bytes. It is refused where a rule fails: of the rules' phases the first that has a failing
-/// line is looked at, of its failing lines the first, and of the rules that fail there the lowest. The phases are the rules 1 and 2; 3
-/// and 4; 10 to 13; 20 to 23; 30 to 37; 40 to 46; 50 and 51.
+/// The load that a bundle stands for, by its bytes. It is refused where a rule fails: of the rules'
+/// phases the first that has a failing line is looked at, of its failing lines the first, and of
+/// the rules that fail there the lowest. The phases are the rules 1 and 2; 3 and 4; 10 to 13; 20 to
+/// 23; 30 to 37; 40 to 46; 50 and 51.
 pub fn load(alloc: Global, bytes: &[u8]) -> Result<Load, LoadFault>
     requires { length bytes.now ≤ LONGEST_TEXT }
     ensures { Answers (Fails bytes.now) (Accepted bytes.now) result }

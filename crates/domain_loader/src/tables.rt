@@ -14,7 +14,8 @@ use rl_defs::idl::Idl;
 use rl_defs::tables::SharedTables;
 use std::alloc::Global;
 
-/// The tables of an interface part, or the first line that the rules 10 to 13 refuse, or the first that the rules 20 to 23 do.
+/// The tables of an interface part, or the first line that the rules 10 to 13 refuse, or the first
+/// that the rules 20 to 23 do.
 pub fn tables_of(alloc: Global, idl: &Idl) -> Result<SharedTables, LoadFault>
     requires few { length idl.now.lines < 2 ^ 32 }
     requires rises { Rises idl.now.lines }

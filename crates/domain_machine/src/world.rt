@@ -117,7 +117,8 @@ impl World {
         self.machine.opened()
     }
 
-    /// The log is a run of the load that leads to the state, and no turn of it began where it was too long.
+    /// The log is a run of the load that leads to the state, and no turn of it began where it was
+    /// too long.
     pub fn is_kept(&self)
         ensures valid { Valid self.now.load }
         ensures run { Run self.now.load self.now.log self.now.state }
@@ -144,7 +145,8 @@ impl World {
         self.machine.turn(self.alloc, t, &mut self.stand)
     }
 
-    /// Makes turns round the order list from its first place, until every client is done, or a turn can't be made.
+    /// Makes turns round the order list from its first place, until every client is done, or a turn
+    /// can't be made.
     pub fn finish(&mut self) -> Finish
         ensures { FinishAnswers self.old self.new result }
     {

@@ -50,7 +50,8 @@ fn repeated(list: List<Kind>, kinds: &[Kind], times: u32) -> Result<List<Kind>, 
     Ok(List::from_vec(items))
 }
 
-// Puts so many times these kinds last. They are put together to a block first, so that there are fewer copies, of more kinds each.
+// Puts so many times these kinds last. They are put together to a block first, so that there are
+// fewer copies, of more kinds each.
 fn append_blocks(items: &mut Vec<Kind>, kinds: &[Kind], times: u32) -> Result<(), AllocError>
     requires many { 16 ≤ times }
     requires room { length kinds.now * times ≤ 512 }

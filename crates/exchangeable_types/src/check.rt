@@ -17,15 +17,16 @@ use rl_defs::tables::StructRow;
 use rl_defs::{LoadFault, Refusal};
 use std::alloc::Global;
 
-/// The structs of an interface part, numbered from 0 in the order of the text. Each has at most 512 cells.
+/// The structs of an interface part, numbered from 0 in the order of the text. Each has at most 512
+/// cells.
 #[derive(Debug, Drop)]
 pub struct Types {
     pub structs: List<StructRow>,
     ghost small: { (k : ℕ) (row : Row) → slice_get structs k ≡ Some row → length row.flat ≤ 512 },
 }
 
-/// Checks the types of an interface part: the rows of its structs, or the first line that the rules 10 to 13 refuse, with the
-/// lowest of these rules there.
+/// Checks the types of an interface part: the rows of its structs, or the first line that the rules
+/// 10 to 13 refuse, with the lowest of these rules there.
 pub fn check_types(alloc: Global, idl: &Idl) -> Result<Types, LoadFault>
     requires few { length idl.now.lines < 2 ^ 32 }
     requires rises { Rises idl.now.lines }
@@ -44,8 +45,8 @@ pub fn cells(types: &Types, s: u32) -> u32
     types.structs.as_slice()[s as usize].flat.len() as u32
 }
 
-/// Whether a struct may stand in an `RRef`. The check has refused each struct whose cells hold a struct too deep, so every struct
-/// that is left may.
+/// Whether a struct may stand in an `RRef`. The check has refused each struct whose cells hold a
+/// struct too deep, so every struct that is left may.
 pub fn in_rref(types: &Types, s: u32) -> bool
     requires { s < length types.now.structs }
     ensures { IsTrue result }

@@ -1,4 +1,5 @@
-//! Which types may cross a domain boundary, and what they flatten to (RedLeaf, section 3.1: exchangeable types).
+//! Which types may cross a domain boundary, and what they flatten to (RedLeaf, section 3.1:
+//! exchangeable types).
 #![tactic(auto)]
 
 mod cells;

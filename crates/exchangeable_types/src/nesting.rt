@@ -1,5 +1,5 @@
-//! The search for an `RRef` of a struct that holds an `RRef`, by the fields of structs. So the cells of a struct are gone over only where
-//! there may be one.
+//! The search for an `RRef` of a struct that holds an `RRef`, by the fields of structs. So the
+//! cells of a struct are gone over only where there may be one.
 ghost use Rattle.std.specs.Prelude.{◌≡◌, ℕ, ◌+◌, ◌++◌, ◌∷◌, [], ◌<◌, ◌≤◌, Some, length, slice_get, IfOk, OnOk};
 ghost use Rattle.rl_defs.specs.Interfaces.{struct_names};
 ghost use Rattle.exchangeable_types.specs.Search.{Searching};
@@ -29,7 +29,8 @@ fn is_nesting(
     }
 }
 
-// Looks at the fields of a struct: whether one is an `RRef` of a struct that holds an `RRef`, and which structs they hold.
+// Looks at the fields of a struct: whether one is an `RRef` of a struct that holds an `RRef`, and
+// which structs they hold.
 fn scan(
     alloc: Global,
     part: &Part,
@@ -56,8 +57,8 @@ fn scan(
     Ok(false)
 }
 
-/// Whether a struct, or one that it reaches by fields outside `RRef`, has a field that is an `RRef` of a struct that holds an `RRef`. What was
-/// passed has none, and is not looked at again.
+/// Whether a struct, or one that it reaches by fields outside `RRef`, has a field that is an `RRef`
+/// of a struct that holds an `RRef`. What was passed has none, and is not looked at again.
 pub fn may_nest(
     alloc: Global,
     part: &Part,

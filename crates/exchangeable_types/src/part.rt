@@ -15,7 +15,8 @@ use std::alloc::{AllocError, Global};
 /// Numbers by names.
 pub type NameTable = IndexMap<Name, u32>;
 
-/// The lines of an interface part, with the numbers of its structs and traits by their names, and the places where structs begin.
+/// The lines of an interface part, with the numbers of its structs and traits by their names, and
+/// the places where structs begin.
 #[derive(Drop)]
 pub struct Part<'a> {
     pub lines: &'a [Numbered<IdlLine>],
@@ -88,7 +89,8 @@ fn put_back(table: &mut NameTable, name: &Name, number: u32) -> Result<(), Alloc
     Ok(())
 }
 
-// Notes a name with its number, unless it is there. Most names are new, so it is put first, and put back where it was there.
+// Notes a name with its number, unless it is there. Most names are new, so it is put first, and put
+// back where it was there.
 fn note(table: &mut NameTable, name: &Name, number: u32) -> Result<(), AllocError>
     ensures { let before = get (pointwise nat_eq) table.old in let after = get (pointwise nat_eq) table.new in
         OnOk result ((q : List ℕ) → after q ≡ noted before name.now number q) }

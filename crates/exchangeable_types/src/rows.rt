@@ -84,8 +84,8 @@ pub(crate) fn is_nested_kind(
     }
 }
 
-// Whether one of the cells of a struct is an `RRef` of a struct that holds an `RRef`. Mostly the fields tell that none is; where they don't,
-// each cell is looked at, with nothing seen before.
+// Whether one of the cells of a struct is an `RRef` of a struct that holds an `RRef`. Mostly the
+// fields tell that none is; where they don't, each cell is looked at, with nothing seen before.
 fn nests(
     alloc: Global,
     part: &Part,
@@ -186,7 +186,8 @@ fn none_seen(alloc: Global, part: &Part) -> Result<Vec<bool>, AllocError>
     Ok(seen)
 }
 
-/// The rows of the structs of a part, or the first line and rule of the rules 11 to 13 that refuses one.
+/// The rows of the structs of a part, or the first line and rule of the rules 11 to 13 that refuses
+/// one.
 pub fn struct_rows(alloc: Global, part: &Part) -> Result<List<StructRow>, LoadFault>
     requires { Rises part.now.lines.now }
     ensures { Answers (FailsStructs part.now.lines.now) (AllRows part.now.lines.now) result }

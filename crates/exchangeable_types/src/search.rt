@@ -45,8 +45,8 @@ fn scan(
     Ok(false)
 }
 
-/// Whether a struct holds an `RRef`, in a field of its own or of a struct that it reaches by fields outside `RRef`. What was seen
-/// without one is marked, and no search looks at it again.
+/// Whether a struct holds an `RRef`, in a field of its own or of a struct that it reaches by fields
+/// outside `RRef`. What was seen without one is marked, and no search looks at it again.
 pub fn search(
     alloc: Global,
     part: &Part,

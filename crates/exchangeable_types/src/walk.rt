@@ -30,7 +30,8 @@ pub enum State {
     Ended(Cells),
 }
 
-/// The visit of a struct: its number, the place of the line that comes next, and the cells of the fields before.
+/// The visit of a struct: its number, the place of the line that comes next, and the cells of the
+/// fields before.
 #[derive(Debug, Drop)]
 pub struct Visit {
     pub number: u32,

@@ -1,4 +1,5 @@
-//! The command `heads N`: two threads give up the heads of a table that no lock guards, and what closing it told is printed.
+//! The command `heads N`: two threads give up the heads of a table that no lock guards, and what
+//! closing it told is printed.
 #![tactic(auto)]
 
 mod run;

@@ -31,8 +31,8 @@ pub(crate) fn table_for_two(alloc: Global, heads: u32) -> Result<(Heads, Pass, P
     Ok((table, first, second))
 }
 
-// One pass claims each head, and the other lends each once. Then one worker ends them, while another gives the loans back. What closing the
-// table told, and how many payloads the workers got.
+// One pass claims each head, and the other lends each once. Then one worker ends them, while
+// another gives the loans back. What closing the table told, and how many payloads the workers got.
 fn give_up_all<R: Threads + Sync>(
     rt: &R,
     alloc: Global,
@@ -77,9 +77,10 @@ fn text_of_run<R: Threads + Sync>(rt: &R, alloc: Global, heads: u32) -> Result<V
     text_of(alloc, heads, closed.words.as_slice(), returned)
 }
 
-/// Runs the command: a table of `n` heads and two passes. The first pass claims each head, with its number as the payload, and the second
-/// lends each once. Then two threads end the heads and give the loans back, and each head's payload comes out at one of them. What closing
-/// the table told is written: the word of each head, and how many payloads came back.
+/// Runs the command: a table of `n` heads and two passes. The first pass claims each head, with its
+/// number as the payload, and the second lends each once. Then two threads end the heads and give
+/// the loans back, and each head's payload comes out at one of them. What closing the table told is
+/// written: the word of each head, and how many payloads came back.
 ///
 /// The whole text is made before its first byte is given, and from then on no memory is taken.
 pub fn redleaf_heads<R: Threads + Sync, K: Sink>(
@@ -89,7 +90,8 @@ pub fn redleaf_heads<R: Threads + Sync, K: Sink>(
     sink: &mut K,
 ) -> Status
     requires { (1 ≤ n) × (n ≤ 4096) }
-    // The words that closing the table gave were written, and that as many payloads came back as heads are gone.
+    // The words that closing the table gave were written, and that as many payloads came back as
+    // heads are gone.
     ensures done { result ≡ Status.Done → WasDone n (K.given sink.old) (K.given sink.new) }
     // A front of that text.
     ensures cut_off { result ≡ Status.WriteFault → WasCutOff n (K.given sink.old) (K.given sink.new) }

@@ -65,7 +65,8 @@ fn a_head_that_is_passed_on_is_taken_up_and_ended(rt: HostRuntime) -> Result<(),
     Ok(())
 }
 
-// One pass ends the head while the other gives its only loan back, on two threads. The cells that came out, at each of them.
+// One pass ends the head while the other gives its only loan back, on two threads. The cells that
+// came out, at each of them.
 fn race<R: Threads + Sync>(
     rt: &R,
     alloc: Global,
@@ -161,7 +162,8 @@ fn two_workers_free_every_head(rt: HostRuntime) -> Result<(), Fail> {
     Ok(())
 }
 
-// A sink that takes 5 bytes in a call fails at each of its calls in turn: a front of the text is there.
+// A sink that takes 5 bytes in a call fails at each of its calls in turn: a front of the text is
+// there.
 #[test]
 fn a_sink_that_fails_gets_a_front(rt: HostRuntime) -> Result<(), Fail> {
     let text = "heads 2\n1 gone\n2 gone\nreturned 2\n".as_bytes();

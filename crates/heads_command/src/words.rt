@@ -21,8 +21,8 @@ fn number_in(word: &[u8]) -> Option<u32>
     Some(n as u32)
 }
 
-/// For how many heads the words are the command: `heads` and a number from 1 to 4096, without a sign or a leading zero. None exactly where
-/// they are no such words.
+/// For how many heads the words are the command: `heads` and a number from 1 to 4096, without a
+/// sign or a leading zero. None exactly where they are no such words.
 pub fn heads_of(words: &[String]) -> Option<u32>
     ensures words { MatchOption result ((n : ℕ) → AreWordsFor (map string_bytes words.now) n → ⊥)
         (λ n. AreWordsFor (map string_bytes words.now) n) }

@@ -1,4 +1,5 @@
-//! What a history tells of each object: who received it last, what it hangs in, whether it is gone, and how many objects hang in it.
+//! What a history tells of each object: who received it last, what it hangs in, whether it is gone,
+//! and how many objects hang in it.
 ghost use Rattle.std.specs.Prelude.{◌≡◌, ℕ, ◌+◌, ◌*◌, ◌<◌, ◌≤◌, ◌^◌, [], length, OnOk};
 ghost use Rattle.machine_defs.specs.History as history;
 ghost use Rattle.heap_report.specs.KeptObjects.{record_at, unknown, is_made, counts, below, holder, owner_in, with_hung};
@@ -129,7 +130,8 @@ impl ObjectRecords {
     fn add_below(&mut self, object: u64, parent: Option<u64>) -> Result<(), AllocError>
         requires { (o : ℕ) → below self.old o + 1 < 2 ^ 64 }
         ensures told { ChangesTold self.old self.new unchanged }
-        ensures below { OnOk result ((o : ℕ) → below self.new o ≡ below self.old o + counts self.old.made object o parent) }
+        ensures below { OnOk result ((o : ℕ)
+            → below self.new o ≡ below self.old o + counts self.old.made object o parent) }
         ensures made { self.new.made ≡ self.old.made }
         ensures room { length self.old.rows.items ≤ length self.new.rows.items }
     {

@@ -1,4 +1,5 @@
-//! What a history tells so far: who acts for each thread, what became of each object, and the account of each owner.
+//! What a history tells so far: who acts for each thread, what became of each object, and the
+//! account of each owner.
 ghost use Rattle.std.specs.Prelude.{◌≡◌, ℕ, ◌+◌, ◌-◌, ◌<◌, ◌^◌, [], length, OnOk, IfOk};
 ghost use Rattle.machine_defs.specs.History.{with_entry, freeing, turns_of};
 ghost use Rattle.heap_report.specs.Readings.{Reads, ReadsOn, AccountsHaveRoom, ListsOwners, SameOwners, begins, is_quiet};

@@ -63,7 +63,8 @@ fn put_objects(
     objects: &ObjectRecords,
     left: &[ObjectRow],
 ) -> Result<(), AllocError>
-    ensures { PutsText result out.old.items out.new.items (flat_map (left_line load.now objects.now.rows.items) left.now) }
+    ensures { PutsText result out.old.items out.new.items
+        (flat_map (left_line load.now objects.now.rows.items) left.now) }
 {
     'each: for row in left {
         put_object(out, load, objects, *row)?;
@@ -142,8 +143,9 @@ fn put_report(
     put_instances(out, &reading.accounts.instances)
 }
 
-/// Puts the report of a run of the load with this log, behind what is there. At its end these objects are left, by rising number, and so
-/// many instances were opened. Only want of memory fails, and then what is there stays as it was.
+/// Puts the report of a run of the load with this log, behind what is there. At its end these
+/// objects are left, by rising number, and so many instances were opened. Only want of memory
+/// fails, and then what is there stays as it was.
 pub fn write_report(
     alloc: Global,
     out: &mut Vec<u8>,

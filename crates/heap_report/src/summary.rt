@@ -49,7 +49,8 @@ fn count_entry(counts: Counts, entry: &Entry) -> Counts
     }
 }
 
-/// The summary of a run with this log, at whose end so many objects are left. Only want of memory fails.
+/// The summary of a run with this log, at whose end so many objects are left. Only want of memory
+/// fails.
 pub fn write_summary(alloc: Global, log: &[Entry], left: u32) -> Result<Vec<u8>, AllocError>
     requires { length log.now < 2 ^ 60 }
     ensures { IfOk result (λ v. IsSummary log.now left v.items) }

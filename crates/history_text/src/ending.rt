@@ -8,7 +8,8 @@ use std::marker::Model;
 // More than the longest line has without its arguments, results or values.
 const ROOM: usize = 128;
 
-/// The bytes that a line ends with. What is put goes in front of what is there. Contracts see the bytes.
+/// The bytes that a line ends with. What is put goes in front of what is there. Contracts see the
+/// bytes.
 #[derive(Drop)]
 pub(crate) struct Ending {
     bytes: [u8; ROOM],

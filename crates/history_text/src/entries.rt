@@ -47,7 +47,8 @@ fn write_listed<T: Item>(
     entry: &Entry,
     items: &[T],
 ) -> Result<(), AllocError>
-    ensures ok { OnOk result (out.new.items ≡ out.old.items ++ (head_text spellings.now entry.now ++ text.line (flat_map (λ a. text.spaced (T.text spellings.now a)) items.now))) }
+    ensures ok { OnOk result (out.new.items ≡ out.old.items ++ (head_text spellings.now entry.now
+        ++ text.line (flat_map (λ a. text.spaced (T.text spellings.now a)) items.now))) }
     ensures err { OnErr result (out.new.items ≡ out.old.items) }
 {
     let len = out.len();
@@ -58,7 +59,8 @@ fn write_listed<T: Item>(
     written
 }
 
-// Puts the head of an entry, what it lists and a line feed. After `AllocError` some of it may stand there.
+// Puts the head of an entry, what it lists and a line feed. After `AllocError` some of it may stand
+// there.
 #[tactic(auto, using(crate::proofs::Kept::kept_append, crate::proofs::Kept::kept_then))]
 fn put_listed<T: Item>(
     spellings: &Spellings,
@@ -66,7 +68,8 @@ fn put_listed<T: Item>(
     entry: &Entry,
     items: &[T],
 ) -> Result<(), AllocError>
-    ensures ok { OnOk result (out.new.items ≡ out.old.items ++ (head_text spellings.now entry.now ++ text.line (flat_map (λ a. text.spaced (T.text spellings.now a)) items.now))) }
+    ensures ok { OnOk result (out.new.items ≡ out.old.items ++ (head_text spellings.now entry.now
+        ++ text.line (flat_map (λ a. text.spaced (T.text spellings.now a)) items.now))) }
     ensures kept { take (length out.old.items) out.new.items ≡ out.old.items }
 {
     let mut head = Ending::new();

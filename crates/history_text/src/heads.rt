@@ -86,7 +86,8 @@ fn put_entered(line: &mut Ending, word: &[u8], call: u32, target: &[u8], instanc
     requires word { length word.now ≤ 7 }
     requires target { length target.now ≤ 24 }
     requires room { length line.old ≤ 26 }
-    ensures value { line.new ≡ word.now ++ (decimal call ++ (text.word target.now (codes "/" ++ (text.instance_text instance ++ line.old)))) }
+    ensures value { line.new ≡ word.now ++ (decimal call
+        ++ (text.word target.now (codes "/" ++ (text.instance_text instance ++ line.old)))) }
     ensures room { length line.new ≤ 100 }
 {
     line.put_number(b"/i", u64::from(instance));

@@ -108,7 +108,8 @@ pub(crate) fn put_items<T: Item>(
     out: &mut Vec<u8>,
     items: &[T],
 ) -> Result<(), AllocError>
-    ensures ok { OnOk result (out.new.items ≡ out.old.items ++ flat_map (λ a. spaced (T.text spellings.now a)) items.now) }
+    ensures ok { OnOk result (out.new.items
+        ≡ out.old.items ++ flat_map (λ a. spaced (T.text spellings.now a)) items.now) }
     ensures kept { take (length out.old.items) out.new.items ≡ out.old.items }
 {
     'items: for item in items {

@@ -1,8 +1,9 @@
-//! The texts of a history, both ways: the line of each entry, the lines of a log, the replies of its clients' commands, and the entry that
-//! a line is.
+//! The texts of a history, both ways: the line of each entry, the lines of a log, the replies of
+//! its clients' commands, and the entry that a line is.
 //!
-//! A line is written from its end to its start in a small buffer, so that each number is written where it stays, and goes to the text as
-//! one piece. What the texts are is stated in `machine_defs`, `specs/Texts.antt`.
+//! A line is written from its end to its start in a small buffer, so that each number is written
+//! where it stays, and goes to the text as one piece. What the texts are is stated in
+//! `machine_defs`, `specs/Texts.antt`.
 #![tactic(auto)]
 
 mod acts;

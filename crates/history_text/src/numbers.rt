@@ -10,7 +10,8 @@ ghost use Rattle.history_text.specs.Reading.{number_of_64, number_of_32, narrow}
 // The value of digits, where it has at most 64 bits.
 fn value_of(digits: &[u8]) -> Option<u64>
     requires { AllDigits 10 digits.now }
-    ensures { MatchOption result (2 ^ 64 ≤ digits_value 10 digits.now) (λ n. (n ≡ digits_value 10 digits.now) × (n < 2 ^ 64)) }
+    ensures { MatchOption result (2 ^ 64 ≤ digits_value 10 digits.now)
+        (λ n. (n ≡ digits_value 10 digits.now) × (n < 2 ^ 64)) }
 {
     let mut value = 0u64;
     'digits: for digit in digits {
@@ -22,7 +23,8 @@ fn value_of(digits: &[u8]) -> Option<u64>
 // The number with one digit more, where it has at most 64 bits.
 fn append_digit(value: u64, digit: u8) -> Option<u64>
     requires { IsInRange 48 57 digit }
-    ensures { MatchOption result (2 ^ 64 ≤ value * 10 + (digit - 48)) (λ n. (n ≡ value * 10 + (digit - 48)) × (n < 2 ^ 64)) }
+    ensures { MatchOption result (2 ^ 64 ≤ value * 10 + (digit - 48))
+        (λ n. (n ≡ value * 10 + (digit - 48)) × (n < 2 ^ 64)) }
 {
     value.checked_mul(10)?.checked_add(u64::from(digit - b'0'))
 }
@@ -30,7 +32,8 @@ fn append_digit(value: u64, digit: u8) -> Option<u64>
 // The number that digits spell, in its one spelling.
 fn number_of(digits: &[u8]) -> Option<u64>
     requires { AllDigits 10 digits.now }
-    ensures { MatchOption result ((n : ℕ) → n < 2 ^ 64 → digits.now ≢ decimal n) (λ n. (digits.now ≡ decimal n) × (n < 2 ^ 64)) }
+    ensures { MatchOption result ((n : ℕ) → n < 2 ^ 64 → digits.now ≢ decimal n)
+        (λ n. (digits.now ≡ decimal n) × (n < 2 ^ 64)) }
 {
     if digits.is_empty() {
         return None;

@@ -15,15 +15,17 @@ use crate::words::Words;
 use machine_defs::entry::Entry;
 use std::alloc::{AllocError, Global};
 
-/// The entry that a line is, its line feed too. None exactly where the line is the text of no entry that the type `Entry` holds and whose
-/// targets, methods and structs are rows of the load.
+/// The entry that a line is, its line feed too. None exactly where the line is the text of no entry
+/// that the type `Entry` holds and whose targets, methods and structs are rows of the load.
 pub fn read_entry(
     alloc: Global,
     spellings: &Spellings,
     line: &[u8],
 ) -> Result<Option<Entry>, AllocError>
     requires { HasWords spellings.now }
-    ensures { IfOk result (λ read. MatchOption read ((e : AnEntry) → IsLoggable spellings.now e → line.now ≢ text.entry_text spellings.now e) (λ e. (line.now ≡ text.entry_text spellings.now e) × IsLoggable spellings.now e)) }
+    ensures { IfOk result (λ read. MatchOption read ((e : AnEntry) → IsLoggable spellings.now e
+        → line.now ≢ text.entry_text spellings.now e)
+        (λ e. (line.now ≡ text.entry_text spellings.now e) × IsLoggable spellings.now e)) }
 {
     let Some(text) = before_line_feed(line) else {
         return Ok(None);
@@ -35,7 +37,8 @@ pub fn read_entry(
 
 // What stands before the line feed at the end.
 fn before_line_feed(line: &[u8]) -> Option<&[u8]>
-    ensures { MatchOption result ((text : List ℕ) → line.now ≢ text ++ 10 ∷ []) (λ text. line.now ≡ text.now ++ 10 ∷ []) }
+    ensures { MatchOption result ((text : List ℕ) → line.now ≢ text ++ 10 ∷ [])
+        (λ text. line.now ≡ text.now ++ 10 ∷ []) }
 {
     match line {
         [text @ .., b'\n'] => Some(text),

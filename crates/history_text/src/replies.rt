@@ -25,7 +25,8 @@ fn code_number(code: RpcCode) -> u64
 // Puts the line of a command whose call failed.
 #[tactic(auto, using(crate::proofs::Kept::kept_append, crate::proofs::Kept::kept_then))]
 fn put_failed(out: &mut Vec<u8>, thread: u32, command: u64, code: RpcCode) -> Result<(), AllocError>
-    ensures ok { OnOk result (out.new.items ≡ out.old.items ++ text.reply_line thread command (codes "error") (text.spaced (decimal (entries.code_number code)))) }
+    ensures ok { OnOk result (out.new.items ≡ out.old.items
+        ++ text.reply_line thread command (codes "error") (text.spaced (decimal (entries.code_number code)))) }
     ensures kept { take (length out.old.items) out.new.items ≡ out.old.items }
 {
     let mut line = Ending::new();
@@ -47,7 +48,8 @@ fn put_given(
     values: &[Value],
 ) -> Result<(), AllocError>
     requires { length says.now ≤ 10 }
-    ensures ok { OnOk result (out.new.items ≡ out.old.items ++ text.reply_line thread command says.now (text.values_text spellings.now values.now)) }
+    ensures ok { OnOk result (out.new.items
+        ≡ out.old.items ++ text.reply_line thread command says.now (text.values_text spellings.now values.now)) }
     ensures kept { take (length out.old.items) out.new.items ≡ out.old.items }
 {
     let mut head = Ending::new();
@@ -60,7 +62,8 @@ fn put_given(
     out.extend_from_slice(b"\n")
 }
 
-// Puts the reply that an entry is, where it ends a command that has one. The tally is what was told of its thread before it. After
+// Puts the reply that an entry is, where it ends a command that has one. The tally is what was told
+// of its thread before it. After
 // `AllocError` some of it may stand there.
 #[tactic(auto, using(crate::proofs::Kept::kept_append, crate::proofs::Kept::kept_then))]
 fn put_reply(

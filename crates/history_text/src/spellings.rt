@@ -13,7 +13,8 @@ use rl_defs::tables::{MethodRow, TraitRow};
 use std::alloc::{AllocError, Global};
 use std::marker::Model;
 
-/// A load with the trait of each load's domain found, so that no entry looks for it. Contracts see the rows of the load.
+/// A load with the trait of each load's domain found, so that no entry looks for it. Contracts see
+/// the rows of the load.
 #[derive(Drop)]
 pub struct Spellings<'a> {
     rows: &'a LoadRows,

@@ -1,4 +1,5 @@
-//! What a history tells of each thread: how many of its calls are open, and how many commands it has begun.
+//! What a history tells of each thread: how many of its calls are open, and how many commands it
+//! has begun.
 ghost use Rattle.std.specs.Prelude.{◌≡◌, ℕ, ◌+◌, ◌<◌, ◌^◌, ◌==◌, OnOk};
 ghost use Rattle.std.specs.List.{position_or_len};
 ghost use Rattle.machine_defs.specs.Texts as text;
@@ -118,11 +119,13 @@ pub(crate) fn tally_of(tallies: &[ThreadTally], thread: u32) -> Tally
     NOTHING
 }
 
-/// Tells an entry to its thread's tally. There is one for each thread that was told of, whatever the numbers of the threads.
+/// Tells an entry to its thread's tally. There is one for each thread that was told of, whatever
+/// the numbers of the threads.
 pub(crate) fn tell(tallies: &mut Vec<ThreadTally>, entry: &Entry) -> Result<(), AllocError>
     requires calls { (told_of tallies.old.items (entries.thread_of entry.now)).calls + 1 < 2 ^ 64 }
     requires commands { (told_of tallies.old.items (entries.thread_of entry.now)).commands + 1 < 2 ^ 64 }
-    ensures { OnOk result ((t : ℕ) → told_of tallies.new.items t ≡ text.tally_after t (told_of tallies.old.items t) entry.now) }
+    ensures { OnOk result ((t : ℕ) → told_of tallies.new.items t
+        ≡ text.tally_after t (told_of tallies.old.items t) entry.now) }
 {
     let thread = thread_of(entry);
     let tally = tally_after(tally_of(tallies, thread), entry);

@@ -31,7 +31,8 @@ fn place_of(text: &[u8], byte: u8) -> usize
 
 /// What stands before the first such byte, and what behind it. None exactly where there is none.
 pub(crate) fn cut(text: &[u8], byte: u8) -> Option<(&[u8], &[u8])>
-    ensures some { IfSome result (λ r. (r.0.now ≡ before_first (λ b. b == byte) text.now) × (r.1.now ≡ after_first (λ b. b == byte) text.now) × (position_or_len (λ b. b == byte) text.now < length text.now)) }
+    ensures some { IfSome result (λ r. (r.0.now ≡ before_first (λ b. b == byte) text.now)
+        × (r.1.now ≡ after_first (λ b. b == byte) text.now) × (position_or_len (λ b. b == byte) text.now < length text.now)) }
     ensures none { IfNone result (length text.now ≤ position_or_len (λ b. b == byte) text.now) }
 {
     let len = place_of(text, byte);

@@ -15,7 +15,8 @@ pub fn one_part()
     ensures { OnePart interface_part }
 {}
 
-/// The lines that the texts of a part stand for are numbered upwards, and are no more than the texts.
+/// The lines that the texts of a part stand for are numbered upwards, and are no more than the
+/// texts.
 pub fn part_rises()
     ensures rises { PartRises }
     ensures short { PartIsShort }

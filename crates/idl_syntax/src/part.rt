@@ -83,9 +83,9 @@ impl PartLine for IdlPart {
     }
 }
 
-/// The forms of an interface part, by the lines behind its header. It is refused at the first line at which rule 1 or 2 fails, by
-/// the lower of them: where a line is no form, where it may not stand behind the lines before it, and behind the last line where a
-/// block is open there.
+/// The forms of an interface part, by the lines behind its header. It is refused at the first line
+/// at which rule 1 or 2 fails, by the lower of them: where a line is no form, where it may not
+/// stand behind the lines before it, and behind the last line where a block is open there.
 pub fn read_idl(alloc: Global, bytes: &[u8], lines: &[Line]) -> Result<Idl, LoadFault>
     requires numbered { AreNumbered bytes.now (first_number lines.now) lines.now }
     requires room { first_number lines.now + length lines.now < 2 ^ 32 }

@@ -12,8 +12,8 @@ use rl_text::line::Line;
 use rl_text::part::read_form;
 use std::alloc::Global;
 
-/// The form of a line, without its number. It is refused by rule 1 exactly where the line is no form of the interface part; a line
-/// without tokens is none.
+/// The form of a line, without its number. It is refused by rule 1 exactly where the line is no
+/// form of the interface part; a line without tokens is none.
 pub fn read_idl_line(alloc: Global, bytes: &[u8], line: &Line) -> Result<IdlLine, LoadFault>
     requires { IsWithin bytes.now line.now }
     ensures { let text = text_of bytes.now line.now in

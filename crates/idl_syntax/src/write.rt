@@ -331,7 +331,8 @@ pub fn write_idl_line(alloc: Global, line: &IdlLine) -> Result<Vec<u8>, AllocErr
     Ok(bytes)
 }
 
-/// The canonical text of an interface part: each line with four blanks for each block that is open round it, and a line feed.
+/// The canonical text of an interface part: each line with four blanks for each block that is open
+/// round it, and a line feed.
 pub fn write_idl(alloc: Global, idl: &Idl) -> Result<Vec<u8>, AllocError>
     ensures canonical { IfOk result (λ v. v.items ≡ write_part idl.now.lines) }
     ensures again { IfOk result (λ v. IsPartReadAgain idl.now.lines v.items) }

@@ -8,7 +8,8 @@ use rl_defs::load::{LoadRow, LoadRows};
 use std::alloc::{AllocError, Global};
 use std::marker::Model;
 
-/// An instance of a load, live or ended, with its words and its slots. Contracts see the instance of the machine's state.
+/// An instance of a load, live or ended, with its words and its slots. Contracts see the instance
+/// of the machine's state.
 #[derive(Debug, Drop)]
 pub struct Instance {
     load: u32,
@@ -85,7 +86,8 @@ impl Instance {
         }
     }
 
-    /// The object in a slot, from 0. None exactly where the slot is empty or there is none of this number.
+    /// The object in a slot, from 0. None exactly where the slot is empty or there is none of this
+    /// number.
     pub fn slot(&self, slot: u32) -> Option<u64>
         ensures { result ≡ unwrap_or (slice_get self.now.slots slot) None }
     {

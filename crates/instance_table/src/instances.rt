@@ -41,7 +41,8 @@ impl Instances {
         Ok(Instances { rows: opened })
     }
 
-    /// Opens one more instance of load `k`, and answers its number. After `AllocError` all is as before.
+    /// Opens one more instance of load `k`, and answers its number. After `AllocError` all is as
+    /// before.
     pub fn open(&mut self, load: &Load, k: u32) -> Result<u32, AllocError>
         requires a_load { (1 ≤ k) × (k ≤ length load.now.loads) }
         requires few { length self.old < 2 ^ 32 - 1 }
@@ -97,8 +98,8 @@ impl Instances {
         }
     }
 
-    /// A word of instance `i`, by its place from 0. None exactly where the place isn't below the count of words, or there is no such
-    /// instance.
+    /// A word of instance `i`, by its place from 0. None exactly where the place isn't below the
+    /// count of words, or there is no such instance.
     pub fn word(&self, i: u32, at: u64) -> Option<u64>
         ensures { result ≡ slice_get (option_map_or (λ x. x.words) (row self.now i) []) at }
     {
@@ -108,7 +109,8 @@ impl Instances {
         }
     }
 
-    /// Gives a word of instance `i` another value. Nothing else changes, and nothing does where there is no such word or instance.
+    /// Gives a word of instance `i` another value. Nothing else changes, and nothing does where
+    /// there is no such word or instance.
     pub fn set_word(&mut self, i: u32, at: u32, value: u64)
         ensures { self.new
             ≡ change_row self.old i (λ x. record x { words = slice_set x.words at value }) (row self.old i) }
@@ -119,7 +121,8 @@ impl Instances {
         self.rows[i as usize - 1].set_word(at, value);
     }
 
-    /// The object in a slot of instance `i`. None exactly where the slot is empty, or there is no such slot or instance.
+    /// The object in a slot of instance `i`. None exactly where the slot is empty, or there is no
+    /// such slot or instance.
     pub fn slot(&self, i: u32, slot: u32) -> Option<u64>
         ensures { result ≡ unwrap_or (slice_get (option_map_or (λ x. x.slots) (row self.now i) []) slot) None }
     {
@@ -129,8 +132,8 @@ impl Instances {
         }
     }
 
-    /// Puts an object into a slot of instance `i`, or empties it. Nothing else changes, and nothing does where there is no such slot or
-    /// instance.
+    /// Puts an object into a slot of instance `i`, or empties it. Nothing else changes, and nothing
+    /// does where there is no such slot or instance.
     pub fn set_slot(&mut self, i: u32, slot: u32, content: Option<u64>)
         ensures { self.new
             ≡ change_row self.old i (λ x. record x { slots = slice_set x.slots slot content }) (row self.old i) }

@@ -1,4 +1,5 @@
-//! Short lists that never take memory, one type for each item and size that is used. Contracts see each as the list of its items.
+//! Short lists that never take memory, one type for each item and size that is used. Contracts see
+//! each as the list of its items.
 ghost use Rattle.std.specs.Prelude.{◌≡◌, [], ◌∷◌, ◌++◌, ◌<◌, ◌≤◌, length, slice_set, replicate, None};
 ghost use Rattle.std.specs.List.{slice_index_or};
 

@@ -6,8 +6,8 @@ use rl_defs::list::List;
 use rl_defs::name::Name;
 use rl_defs::values::Value;
 
-/// One event of a run. All rows but `Free` are an act of a thread, which is a client's number. Calls, targets, instances, methods,
-/// structs and objects are numbers.
+/// One event of a run. All rows but `Free` are an act of a thread, which is a client's number.
+/// Calls, targets, instances, methods, structs and objects are numbers.
 #[derive(Debug, Drop)]
 pub enum Entry {
     /// The call enters an instance of its target.

@@ -5,7 +5,8 @@ ghost use Rattle.machine_defs.specs.Sight.{Sight};
 use crate::arrays::{Args, Numbers, Objects, Registers, Results};
 use crate::values::{Cause, RpcCode};
 
-/// Where a frame stands: at a line of domain code with its registers, or in a native body with the objects that it holds.
+/// Where a frame stands: at a line of domain code with its registers, or in a native body with the
+/// objects that it holds.
 #[derive(Debug, Drop)]
 pub enum FrameBody<N: Drop> {
     /// `line` is a place in the domain's text, from 0.
@@ -13,7 +14,8 @@ pub enum FrameBody<N: Drop> {
     Native { held: Objects, state: N },
 }
 
-/// A call that was entered: the continuation that RedLeaf's proxies keep of a thread that migrates into a domain (section 3.1).
+/// A call that was entered: the continuation that RedLeaf's proxies keep of a thread that migrates
+/// into a domain (section 3.1).
 #[derive(Debug, Drop)]
 pub struct Frame<N: Drop> {
     pub call: u32,
@@ -28,7 +30,8 @@ pub struct Frame<N: Drop> {
     pub body: FrameBody<N>,
 }
 
-/// What a frame would do next. Objects, structs, targets and methods are numbers, slots are numbered from 0.
+/// What a frame would do next. Objects, structs, targets and methods are numbers, slots are
+/// numbered from 0.
 #[derive(Debug, Drop)]
 pub enum Action {
     /// Makes an object of the struct.
@@ -72,12 +75,13 @@ pub enum Answer {
     Failed(RpcCode),
 }
 
-/// What register work and native bodies see of the machine: one instance's words, slots and bindings, the cells of the objects that
-/// its frame may read, and the device.
+/// What register work and native bodies see of the machine: one instance's words, slots and
+/// bindings, the cells of the objects that its frame may read, and the device.
 pub trait View {
     ghost sight: { Self → Sight };
 
-    /// A number cell of an object. None exactly where the place isn't below the count of cells or is an `RRef` cell.
+    /// A number cell of an object. None exactly where the place isn't below the count of cells or
+    /// is an `RRef` cell.
     fn cell(&self, object: u64, at: u64) -> Option<u64>
         ensures { result ≡ (sight self.now).cell object at };
 
@@ -89,7 +93,8 @@ pub trait View {
     fn slot(&self, at: u32) -> Option<u64>
         ensures { result ≡ (sight self.now).slot at };
 
-    /// The object in an `RRef` cell of an object. None exactly where the place is no such cell or is empty.
+    /// The object in an `RRef` cell of an object. None exactly where the place is no such cell or
+    /// is empty.
     fn hung(&self, object: u64, at: u64) -> Option<u64>
         ensures { result ≡ (sight self.now).hung object at };
 

@@ -9,7 +9,8 @@ pub enum HeadWord {
     Busy,
     /// It was released: its object is freed, for good.
     Gone,
-    /// It is published, with a count of loans, whether it has ended, and the number of the pass to which it is being passed on.
+    /// It is published, with a count of loans, whether it has ended, and the number of the pass to
+    /// which it is being passed on.
     Live {
         loans: u32,
         ended: bool,
@@ -17,7 +18,8 @@ pub enum HeadWord {
     },
 }
 
-/// The title to a head: the right to end it or to pass it on. That of the pass which claimed the head knows the payload's list.
+/// The title to a head: the right to end it or to pass it on. That of the pass which claimed the
+/// head knows the payload's list.
 pub struct Title {
     pub head: u64,
     pub list: Option<[u64; 0]>,
@@ -36,7 +38,8 @@ pub struct View {
     pub claimed: [u64; 0],
     /// The heads that it ever released.
     pub released: [u64; 0],
-    /// How many looks it made, at which head the last one was, the word that it found there, and the word that it left.
+    /// How many looks it made, at which head the last one was, the word that it found there, and
+    /// the word that it left.
     pub looks: u64,
     pub last_head: u64,
     pub last_word: HeadWord,

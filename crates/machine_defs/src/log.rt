@@ -6,7 +6,8 @@ use crate::entry::Entry;
 use std::alloc::{AllocError, Global};
 use std::marker::Model;
 
-/// The entries of a run, in order, with room for some more. Contracts see the entries and the number of puts that can't fail.
+/// The entries of a run, in order, with room for some more. Contracts see the entries and the
+/// number of puts that can't fail.
 #[derive(Debug, Drop)]
 pub struct Log {
     entries: Vec<Entry>,
@@ -31,7 +32,8 @@ impl Log {
         }
     }
 
-    /// Makes room for at least this many entries. The entries stay; after `AllocError` the room stays too.
+    /// Makes room for at least this many entries. The entries stay; after `AllocError` the room
+    /// stays too.
     pub fn reserve(&mut self, more: usize) -> Result<(), AllocError>
         ensures entries { self.new.entries ≡ self.old.entries }
         ensures ok { OnOk result (more ≤ self.new.spare) }

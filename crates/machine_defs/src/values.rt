@@ -31,7 +31,8 @@ impl Default for Arg {
     }
 }
 
-/// Why a call failed: the error that RedLeaf's proxies return in place of a result (section 3.1, `RpcResult`).
+/// Why a call failed: the error that RedLeaf's proxies return in place of a result (section 3.1,
+/// `RpcResult`).
 #[derive(Clone, Copy, Debug, PartialEq, Eq)]
 pub enum RpcCode {
     /// The target had ended, and no restart was left.

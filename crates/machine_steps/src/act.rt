@@ -29,7 +29,8 @@ pub(crate) fn domain_of(load: &Load, k: u32) -> Option<&CheckedDomain>
     rows.domains.get(rows.load_row(k)?.domain as usize)
 }
 
-/// The top frame of client `t`, of instance `i`, goes on from the answer to its action, before which it stood so. The action is charged.
+/// The top frame of client `t`, of instance `i`, goes on from the answer to its action, before
+/// which it stood so. The action is charged.
 pub(crate) fn go_on(
     load: &Load,
     instances: &Instances,
@@ -42,7 +43,8 @@ pub(crate) fn go_on(
 )
     requires a_client { (0 < t) × (t ≤ length stacks.old.frames) }
     requires code { stands_in_code (top (stack_of stacks.old.frames t)) ≡ true }
-    requires awaits { Awaits (domain_in load.now instances.now i) (standing stand.old.line stand.old.registers) answer.now }
+    requires awaits { Awaits (domain_in load.now instances.now i)
+        (standing stand.old.line stand.old.registers) answer.now }
     ensures threads { threads.new ≡ change_row threads.old t (with_fuel (stand.old.fuel - 1)) (row threads.old t) }
     ensures frames { (f : StackFrame) → top (stack_of stacks.old.frames t) ≡ Some f → stacks.new.frames
         ≡ with_stack_of stacks.old.frames t (below_top (stack_of stacks.old.frames t)

@@ -40,8 +40,8 @@ use rl_defs::load::{Command, Load};
 use rref_heap::Heap;
 use trampolines::{Body, Stacks};
 
-// A call enters: what it moves passes to the instance of its frame, what it lends gains a loan, and the frame stands on top of the
-// client's stack. It takes no memory.
+// A call enters: what it moves passes to the instance of its frame, what it lends gains a loan, and
+// the frame stands on top of the client's stack. It takes no memory.
 fn enter(
     heap: &mut Heap,
     stacks: &mut Stacks<Body<NativeState>>,
@@ -63,7 +63,8 @@ fn enter(
     stacks.push(t, frame);
 }
 
-/// The names out of which the next command of client `t`, a call, moves objects hold nothing any more.
+/// The names out of which the next command of client `t`, a call, moves objects hold nothing any
+/// more.
 pub(crate) fn give_up_names(load: &Load, threads: &mut Threads, t: u32)
     ensures { (x : Thread) (target method : ℕ) (given : List ScriptArg) (names : List ℕ) → row threads.old t ≡ Some x
         → slice_get (commands_of (row load.now.clients t)) x.place ≡ Some (command.Call target method given names)
@@ -79,8 +80,8 @@ pub(crate) fn give_up_names(load: &Load, threads: &mut Threads, t: u32)
     }
 }
 
-// The top frame of client `t`, of instance `i`, which stands so at its call, waits for the call: the objects that the call moves have left
-// its registers.
+// The top frame of client `t`, of instance `i`, which stands so at its call, waits for the call:
+// the objects that the call moves have left its registers.
 fn wait(
     load: &Load,
     instances: &Instances,
@@ -105,7 +106,8 @@ fn wait(
 }
 
 impl Machine {
-    /// The next command of client `t`, a call of method `m` of target `x` with these arguments, enters instance `i`. It takes no memory.
+    /// The next command of client `t`, a call of method `m` of target `x` with these arguments,
+    /// enters instance `i`. It takes no memory.
     pub fn client_enters(&mut self, t: u32, x: u32, m: u32, args: &Args, i: u32)
         requires may { MayStep self.old t }
         requires wants { ClientCalls self.old t x m args.now }
@@ -133,8 +135,8 @@ impl Machine {
         self.next_call = call + 1;
     }
 
-    /// The top frame of client `t`, of instance `j`, which stands so, calls method `m` of target `x` with these arguments, and enters
-    /// instance `i`. It takes no memory.
+    /// The top frame of client `t`, of instance `j`, which stands so, calls method `m` of target
+    /// `x` with these arguments, and enters instance `i`. It takes no memory.
     pub fn frame_enters(
         &mut self,
         t: u32,

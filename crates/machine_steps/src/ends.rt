@@ -18,7 +18,8 @@ use std::sync::ledger::Ledger;
 use unwinder::end_instance;
 
 impl Machine {
-    /// Instance `i`, of client `t`'s top frame, ends by its own code. What it owned is freed but for what is lent. It takes no memory.
+    /// Instance `i`, of client `t`'s top frame, ends by its own code. What it owned is freed but
+    /// for what is lent. It takes no memory.
     pub fn trap<L: Ledger>(
         &mut self,
         t: u32,
@@ -49,7 +50,8 @@ impl Machine {
         );
     }
 
-    /// Client `t` ends instance `i`, which the target stands for. One that has ended stays as it is. It takes no memory.
+    /// Client `t` ends instance `i`, which the target stands for. One that has ended stays as it
+    /// is. It takes no memory.
     pub fn kill<L: Ledger>(&mut self, t: u32, target: u32, i: u32, steps: &mut Steps<L>)
         requires may { MayStep self.old t }
         requires wants { wanted self.old.load self.old.state t ≡ Commands (command.Kill target) }

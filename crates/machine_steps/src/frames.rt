@@ -16,7 +16,8 @@ use rl_defs::checked::CheckedDomain;
 use rl_defs::load::Load;
 use trampolines::Body;
 
-/// The frame of a call that begins: of a method of the target, in an instance of its load, with these arguments. It takes no memory.
+/// The frame of a call that begins: of a method of the target, in an instance of its load, with
+/// these arguments. It takes no memory.
 pub(crate) fn frame_at_entry(
     load: &Load,
     call: u32,

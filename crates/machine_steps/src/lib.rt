@@ -1,7 +1,9 @@
-//! The steps of the domain machine: a load, its log and the state that the log leads to, and one call for each kind of step.
+//! The steps of the domain machine: a load, its log and the state that the log leads to, and one
+//! call for each kind of step.
 //!
-//! A [`Machine`] keeps that its log is a run of its load that ends in its state. Each call makes one step of the machine, and logs it
-//! with the objects that are freed behind it. Which step a thread takes is decided elsewhere; here it is made.
+//! A [`Machine`] keeps that its log is a run of its load that ends in its state. Each call makes
+//! one step of the machine, and logs it with the objects that are freed behind it. Which step a
+//! thread takes is decided elsewhere; here it is made.
 #![tactic(auto)]
 
 mod act;

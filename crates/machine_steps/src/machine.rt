@@ -11,7 +11,8 @@ use shadow_domains::Shadows;
 use std::marker::Model;
 use trampolines::{Body, Stacks};
 
-/// A load, a log of it, and the state that the log leads to. Its type keeps that the log is a run of the load.
+/// A load, a log of it, and the state that the log leads to. Its type keeps that the log is a run
+/// of the load.
 #[derive(Drop)]
 pub struct Machine {
     pub(crate) load: Load,

@@ -18,8 +18,8 @@ use rl_defs::values::Value;
 use std::alloc::{AllocError, Global};
 
 impl Machine {
-    /// Client `t` drops the object that this name of its script holds, and the name holds nothing any more. What hung in the object is
-    /// freed. It takes no memory.
+    /// Client `t` drops the object that this name of its script holds, and the name holds nothing
+    /// any more. What hung in the object is freed. It takes no memory.
     pub fn drop_named(&mut self, t: u32, k: u32, o: u64)
         requires may { MayStep self.old t }
         requires wants { wanted self.old.load self.old.state t ≡ Commands (command.Drop k) }
@@ -40,7 +40,8 @@ impl Machine {
         self.heap.sweep(&mut self.log);
     }
 
-    /// Client `t` makes the object that its next command gives, and the command's name holds it. After `AllocError` all is as before.
+    /// Client `t` makes the object that its next command gives, and the command's name holds it.
+    /// After `AllocError` all is as before.
     pub fn make_named(&mut self, alloc: Global, t: u32) -> Result<(), AllocError>
         requires may { MayStep self.old t }
         requires wants { (next : Command)

@@ -131,7 +131,8 @@ impl Machine {
         }
     }
 
-    // Whether a command can be done: its names hold something, and there is room for the object that it makes.
+    // Whether a command can be done: its names hold something, and there is room for the object
+    // that it makes.
     fn can_do(&self, thread: &Thread, command: &Command) -> bool
         ensures { result ≡ can_do self.now.state thread.now.names command.now }
     {
@@ -203,7 +204,8 @@ impl Machine {
         )
     }
 
-    // What client `t` does next, whose top frame is of instance `i`, which lives; and where the frame stands before it.
+    // What client `t` does next, whose top frame is of instance `i`, which lives; and where the
+    // frame stands before it.
     fn next_of_frame(&self, t: u32, i: u32, stand: &mut Standing) -> Next
         requires a_client { (0 < t) × (t ≤ length self.now.load.clients) }
         requires undone { is_undone (row self.now.state.threads t) ≡ true }
@@ -228,7 +230,8 @@ impl Machine {
         }
     }
 
-    // What client `t` does next, whose top frame is of this call of a target, and whose instance has ended.
+    // What client `t` does next, whose top frame is of this call of a target, and whose instance
+    // has ended.
     fn next_of_dead(&self, t: u32, call: u32, target: u32) -> Next
         requires a_client { (0 < t) × (t ≤ length self.now.load.clients) }
         requires undone { is_undone (row self.now.state.threads t) ≡ true }

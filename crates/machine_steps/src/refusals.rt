@@ -41,7 +41,8 @@ fn given_of<'a>(load: &'a Load, t: u32, thread: &Thread) -> &'a [ScriptArg]
     }
 }
 
-// The names that the next command of client `t`, a call, moves objects out of hold nothing any more.
+// The names that the next command of client `t`, a call, moves objects out of hold nothing any
+// more.
 fn give_up_names(load: &Load, threads: &mut Threads, t: u32)
     ensures { threads.new ≡ change_row threads.old t (λ x. record x {
       names = given_up_names (given_in (slice_get (commands_of (row load.now.clients t)) x.place)) x.names;
@@ -55,7 +56,8 @@ fn give_up_names(load: &Load, threads: &mut Threads, t: u32)
     threads.give_up(t, given);
 }
 
-// A frame of instance `i` that stands at a call's line waits: the objects that the call moves leave its registers.
+// A frame of instance `i` that stands at a call's line waits: the objects that the call moves leave
+// its registers.
 fn wait(load: &Load, instances: &Instances, i: u32, stand: &mut Standing)
     ensures { stand.new ≡ record stand.old {
       registers = all_given_up
@@ -68,8 +70,8 @@ fn wait(load: &Load, instances: &Instances, i: u32, stand: &mut Standing)
 }
 
 impl Machine {
-    /// The call that client `t`'s script comes to is refused. Its moved arguments are dropped, with what hangs in them, and the command is done.
-    /// It takes no memory.
+    /// The call that client `t`'s script comes to is refused. Its moved arguments are dropped, with
+    /// what hangs in them, and the command is done. It takes no memory.
     pub fn client_refused(&mut self, t: u32, x: u32, m: u32, args: &Args, why: RpcCode)
         requires may { MayStep self.old t }
         requires calls { ClientCalls self.old t x m args.now }
@@ -97,8 +99,9 @@ impl Machine {
         self.heap.sweep(&mut self.log);
     }
 
-    /// The call that client `t`'s top frame, of instance `j`, would make is refused. Its moved arguments are dropped, with what hangs in them,
-    /// and the frame goes on from the code. It takes no memory.
+    /// The call that client `t`'s top frame, of instance `j`, would make is refused. Its moved
+    /// arguments are dropped, with what hangs in them, and the frame goes on from the code. It
+    /// takes no memory.
     pub fn frame_refused(
         &mut self,
         t: u32,

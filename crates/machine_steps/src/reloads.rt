@@ -1,4 +1,5 @@
-//! A shadow's load gets a fresh instance, and calls of the one that has ended are issued again in it.
+//! A shadow's load gets a fresh instance, and calls of the one that has ended are issued again in
+//! it.
 ghost use Rattle.std.specs.Prelude.{◌≡◌, ◌+◌, ℕ, length, OnOk, OnErr};
 ghost use Rattle.machine_defs.specs.declared.entry.Entry.TheVariants as entry;
 ghost use Rattle.machine_defs.specs.Calling.{restarts_left};
@@ -13,8 +14,9 @@ use machine_defs::values::Owner;
 use std::alloc::AllocError;
 
 impl Machine {
-    /// A fresh instance of shadow `x`'s load takes the place of the one that has ended, since client `t` needs it. The shadow has one
-    /// restart less. After `AllocError` nothing has changed.
+    /// A fresh instance of shadow `x`'s load takes the place of the one that has ended, since
+    /// client `t` needs it. The shadow has one restart less. After `AllocError` nothing has
+    /// changed.
     pub fn reload(&mut self, t: u32, x: u32) -> Result<(), AllocError>
         requires may { MayStep self.old t }
         requires needs { MayReload self.old t x }
@@ -37,8 +39,9 @@ impl Machine {
         Ok(())
     }
 
-    /// The call of client `t`'s top frame, whose instance has ended, is issued again through its shadow in instance `i`, with the same
-    /// arguments and loans, and at no charge. It takes no memory.
+    /// The call of client `t`'s top frame, whose instance has ended, is issued again through its
+    /// shadow in instance `i`, with the same arguments and loans, and at no charge. It takes no
+    /// memory.
     pub fn again(&mut self, t: u32, c: u32, x: u32, i: u32)
         requires may { MayStep self.old t }
         requires again { MayIssueAgain self.old t c x i }

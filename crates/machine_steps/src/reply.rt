@@ -20,7 +20,8 @@ use rl_defs::values::Value;
 use std::slice;
 use trampolines::{Body, Stacks};
 
-/// Who acts for client `t`: the instance of its top frame, or the client itself where it has no frame.
+/// Who acts for client `t`: the instance of its top frame, or the client itself where it has no
+/// frame.
 pub(crate) fn actor(stacks: &Stacks<Body<NativeState>>, t: u32) -> Owner
     requires { (0 < t) × (t ≤ length stacks.now.frames) }
     ensures { result ≡ actor_in stacks.now.frames t }
@@ -41,8 +42,9 @@ pub(crate) fn is_over(instances: &Instances, owner: Owner) -> bool
     }
 }
 
-/// A call of client `t` has ended, and its frame is popped. Who made it gets the answer: the frame that is on top now goes on from it, or gets
-/// nothing where its instance has ended; where there is none, the client's command is done.
+/// A call of client `t` has ended, and its frame is popped. Who made it gets the answer: the frame
+/// that is on top now goes on from it, or gets nothing where its instance has ended; where there is
+/// none, the client's command is done.
 pub(crate) fn reply(
     load: &Load,
     instances: &Instances,
@@ -67,7 +69,8 @@ pub(crate) fn reply(
     }
 }
 
-// The top frame of client `t` goes on from an answer. A frame of an instance that has ended gets nothing.
+// The top frame of client `t` goes on from an answer. A frame of an instance that has ended gets
+// nothing.
 fn tell_frame(
     load: &Load,
     instances: &Instances,

@@ -29,8 +29,9 @@ fn copied(results: &Results) -> Results
 }
 
 impl Machine {
-    /// The top frame of client `t` ends, which is of call `c`, and whose instance has ended. Its loans end with it, and its caller gets the code
-    /// for that. What nobody can reach then is freed. It takes no memory.
+    /// The top frame of client `t` ends, which is of call `c`, and whose instance has ended. Its
+    /// loans end with it, and its caller gets the code for that. What nobody can reach then is
+    /// freed. It takes no memory.
     pub fn unwind(&mut self, t: u32, c: u32)
         requires may { MayStep self.old t }
         requires over { MayUnwind self.old t c }
@@ -53,8 +54,9 @@ impl Machine {
         self.heap.sweep(&mut self.log);
     }
 
-    /// The top frame of client `t`, of instance `i` and of call `c`, returns. Its loans end with it, and its results pass to whoever made the
-    /// call. What nobody can reach then is freed. It takes no memory.
+    /// The top frame of client `t`, of instance `i` and of call `c`, returns. Its loans end with
+    /// it, and its results pass to whoever made the call. What nobody can reach then is freed. It
+    /// takes no memory.
     pub fn ret(&mut self, t: u32, i: u32, stand: &Standing, c: u32, results: &Results)
         requires may { MayStep self.old t }
         requires wants { WouldAct self.old t i (action.Ret results.now) stand.now }

@@ -41,7 +41,8 @@ impl Machine {
         self.threads.end_command(t, &[], &[]);
     }
 
-    /// Client `t` lists the cells of the object that this name of its script holds. After `AllocError` all is as before.
+    /// Client `t` lists the cells of the object that this name of its script holds. After
+    /// `AllocError` all is as before.
     pub fn show(&mut self, alloc: Global, t: u32, k: u32, o: u64) -> Result<(), AllocError>
         requires may { MayStep self.old t }
         requires wants { wanted self.old.load self.old.state t ≡ Commands (command.Show k) }

@@ -39,7 +39,8 @@ fn copy_stand(frame: &Frame<Body<NativeState>>, stand: &mut Standing)
     }
 }
 
-// What a frame of instance `i` that stands so would do next. It stands there then, and the action isn't paid yet.
+// What a frame of instance `i` that stands so would do next. It stands there then, and the action
+// isn't paid yet.
 fn settle_stand(
     load: &Load,
     instances: &Instances,
@@ -72,7 +73,8 @@ fn settle_stand(
 }
 
 impl Machine {
-    /// What client `t`'s top frame, of instance `i`, would do next, and where it stands before it. The machine stays as it is.
+    /// What client `t`'s top frame, of instance `i`, would do next, and where it stands before it.
+    /// The machine stays as it is.
     pub fn settle_top(&self, t: u32, i: u32, stand: &mut Standing) -> Act
         requires a_client { (0 < t) × (t ≤ length self.now.load.clients) }
         requires lives { IsLiveTop self.now t i }

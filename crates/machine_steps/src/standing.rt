@@ -2,8 +2,8 @@
 
 use machine_defs::arrays::Registers;
 
-/// Where register work has come: the fuel that is left, the line, from 0, and the registers. It isn't the frame's own, so that a turn
-/// that isn't made leaves the frame as it was.
+/// Where register work has come: the fuel that is left, the line, from 0, and the registers. It
+/// isn't the frame's own, so that a turn that isn't made leaves the frame as it was.
 #[derive(Debug, Drop)]
 pub struct Standing {
     pub fuel: u32,

@@ -72,7 +72,8 @@ fn first_heap(alloc: Global, clients: u32, instances: u32) -> Result<Heap, Alloc
 }
 
 impl Machine {
-    /// The machine of a load at its start, with room for all entries that its log may get. The load has no domain with a native body.
+    /// The machine of a load at its start, with room for all entries that its log may get. The load
+    /// has no domain with a native body.
     pub fn new(alloc: Global, load: Load) -> Result<Machine, AllocError>
         requires code { IsCodeAlone load }
         ensures { IfOk result (λ w. w ≡ record { load = load; log = []; state = start load }) }
@@ -133,8 +134,8 @@ impl Machine {
         self.instances.len() as u32
     }
 
-    /// What the type keeps: the load is valid, the log is a run of it that leads to the state, and no turn began that may not. It does
-    /// nothing.
+    /// What the type keeps: the load is valid, the log is a run of it that leads to the state, and
+    /// no turn began that may not. It does nothing.
     pub fn is_kept(&self)
         ensures valid { Valid self.now.load }
         ensures run { Run self.now.load self.now.log self.now.state }

@@ -39,7 +39,8 @@ impl Machine {
         }
     }
 
-    /// A turn of client `t`: one step, unless it is done, waits, or the log or the memory is full. `stand` is a place for its register work.
+    /// A turn of client `t`: one step, unless it is done, waits, or the log or the memory is full.
+    /// `stand` is a place for its register work.
     pub fn turn(&mut self, alloc: Global, t: u32, stand: &mut Standing) -> Turn
         requires { (0 < t) × (t ≤ length self.old.load.clients) }
         ensures { TurnAnswers self.old self.new t result }

@@ -20,7 +20,8 @@ use std::marker::Model;
 // The most cells of an object.
 const MOST_CELLS: u64 = 512;
 
-/// What a frame of an instance sees of a machine between its steps. Contracts see the parts that it looks at.
+/// What a frame of an instance sees of a machine between its steps. Contracts see the parts that it
+/// looks at.
 #[derive(Drop)]
 pub(crate) struct FrameView<'a> {
     load: &'a Load,
@@ -98,7 +99,8 @@ fn if_number(kind: Option<Kind>, cell: Option<u64>) -> Option<u64>
     }
 }
 
-// The number in a cell of an object. None exactly where there is no such cell or it is for an `RRef`.
+// The number in a cell of an object. None exactly where there is no such cell or it is for an
+// `RRef`.
 fn number_cell(load: &Load, heap: &Heap, object: u64, at: u64) -> Option<u64>
     ensures { (s : State) → s.objects ≡ heap_objects heap.now.rows → result ≡ number_cell load.now s object at }
 {

@@ -9,7 +9,8 @@ use rl_defs::name::Name;
 use std::alloc::{AllocError, Global};
 use std::marker::Model;
 
-/// Names in order, with the place where each stands first. A name may stand there more than once. Contracts see the list of the names.
+/// Names in order, with the place where each stands first. A name may stand there more than once.
+/// Contracts see the list of the names.
 #[derive(Drop)]
 pub struct Names {
     names: Vec<Name>,
@@ -38,7 +39,8 @@ impl Names {
         }
     }
 
-    /// No names, and room for as many as are counted. It is a help alone, so where memory for it isn't found it is left away.
+    /// No names, and room for as many as are counted. It is a help alone, so where memory for it
+    /// isn't found it is left away.
     pub fn with_room(alloc: Global, count: usize) -> Names
         ensures { result ≡ [] }
     {
@@ -48,7 +50,8 @@ impl Names {
         names
     }
 
-    /// Takes all names out. Their memory is kept, unless it is for many more than they were: so this takes time for the names alone.
+    /// Takes all names out. Their memory is kept, unless it is for many more than they were: so
+    /// this takes time for the names alone.
     pub fn clear(&mut self)
         ensures { self.new ≡ [] }
     {
@@ -64,7 +67,8 @@ impl Names {
         }
     }
 
-    /// Adds a name, and gives the place where it stood before, from 0, if it did. After `AllocError` the names are as before.
+    /// Adds a name, and gives the place where it stood before, from 0, if it did. After
+    /// `AllocError` the names are as before.
     pub fn add(&mut self, name: &Name) -> Result<Option<u32>, AllocError>
         requires room { length self.old < 2 ^ 32 - 1 }
         ensures added { OnOk result (self.new ≡ self.old ++ name.now ∷ []) }

@@ -47,8 +47,9 @@ fn rows_by_parts(
     Ok(rows_of(alloc, &tables, clients)?)
 }
 
-/// The rows that a plan stands for, or the first line of the bundle that one of the rules 40 to 46 refuses, with the lowest of these rules
-/// there. The bundle's names are known to be given once and declared; its interfaces are not looked at.
+/// The rows that a plan stands for, or the first line of the bundle that one of the rules 40 to 46
+/// refuses, with the lowest of these rules there. The bundle's names are known to be given once and
+/// declared; its interfaces are not looked at.
 pub fn check_plan(
     alloc: Global,
     domains: &List<CheckedDomain>,

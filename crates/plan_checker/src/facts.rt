@@ -132,7 +132,8 @@ impl<'a> DomainFacts<'a> {
         self.native
     }
 
-    /// Whether an import has another trait than the domain of a target. That is so of an import that isn't there.
+    /// Whether an import has another trait than the domain of a target. That is so of an import
+    /// that isn't there.
     pub fn is_other_trait(&self, import: &Name, target: &DomainFacts) -> bool
         ensures { result ≡ is_other_trait self.now import.now target.now }
     {

@@ -1,4 +1,5 @@
-//! The plan of a bundle: the rules 40 to 46, and the rows that a plan stands for. The names of the bundle are known to be declared.
+//! The plan of a bundle: the rules 40 to 46, and the rows that a plan stands for. The names of the
+//! bundle are known to be declared.
 #![tactic(auto)]
 
 pub mod check;

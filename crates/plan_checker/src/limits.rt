@@ -76,7 +76,8 @@ fn is_full(commands: Option<usize>) -> bool
     }
 }
 
-// Whether a line of the clients is too much, behind so many clients, and so many commands of its client.
+// Whether a line of the clients is too much, behind so many clients, and so many commands of its
+// client.
 fn is_over_in_clients(clients: usize, commands: Option<usize>, form: &ClientLine) -> bool
     ensures { result ≡ is_over_in_clients clients commands form.now }
 {

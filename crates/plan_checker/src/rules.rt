@@ -23,7 +23,8 @@ pub const MOST_FUEL: u64 = 1_000_000;
 /// The most blocks of a device.
 pub const MOST_BLOCKS: u64 = 4_096;
 
-/// What the lines before a line give: how many loads, the loads that have a shadow, and how many devices.
+/// What the lines before a line give: how many loads, the loads that have a shadow, and how many
+/// devices.
 #[derive(Drop)]
 pub struct Seen {
     pub loads: usize,

@@ -20,8 +20,9 @@ use rl_defs::name::Name;
 use std::alloc::{AllocError, Global};
 use std::marker::Model;
 
-// The domains that the plan loads, by their names: the number of each among all domains, and what the plan looks at in it. A bundle may
-// have many domains that no load names, and nothing is kept of them.
+// The domains that the plan loads, by their names: the number of each among all domains, and what
+// the plan looks at in it. A bundle may have many domains that no load names, and nothing is kept
+// of them.
 #[derive(Drop)]
 struct Domains<'a> {
     names: Names,
@@ -29,7 +30,8 @@ struct Domains<'a> {
     facts: List<DomainFacts<'a>>,
 }
 
-/// The lines of a plan and the domains of its bundle, with look-ups. Contracts see a bundle of these domains and this plan.
+/// The lines of a plan and the domains of its bundle, with look-ups. Contracts see a bundle of
+/// these domains and this plan.
 #[derive(Drop)]
 pub struct PlanTables<'a> {
     lines: &'a [Numbered<PlanLine>],
@@ -254,7 +256,8 @@ impl<'a> PlanTables<'a> {
         }
     }
 
-    /// The number of a target: the loads are numbered from 1, and the shadows on after them. It is 0 where there is none.
+    /// The number of a target: the loads are numbered from 1, and the shadows on after them. It is
+    /// 0 where there is none.
     pub fn target_number(&self, target: &Name) -> u32
         ensures { result ≡ target_number self.now target.now }
     {

@@ -21,12 +21,14 @@ pub enum Crossing {
     Refuse(RpcCode),
     /// The instance of its target has ended, and has to be loaded again first.
     Reload,
-    /// The instance is serial, and this client, the least other one that has a frame in it, has to leave it first.
+    /// The instance is serial, and this client, the least other one that has a frame in it, has to
+    /// leave it first.
     Wait(u32),
 }
 
-/// What comes of a call of `target` by client `t`, where the first cause decides: the stack is full, the target is gone for good, the order
-/// of serial domains is broken, the instance has ended, or another thread is in it.
+/// What comes of a call of `target` by client `t`, where the first cause decides: the stack is
+/// full, the target is gone for good, the order of serial domains is broken, the instance has
+/// ended, or another thread is in it.
 pub fn crossing_of<S: Drop>(
     proxies: &Proxies,
     load: &Load,
@@ -102,8 +104,8 @@ fn outranks(proxies: &Proxies, load: &Load, instances: &Instances, rank: u32, in
     instances.is_live(instance) && proxies.is_serial(load, of) && of <= rank
 }
 
-/// The client that has to leave an instance before client `t` may enter it: where the instance is serial, the least other one that has a
-/// frame in it.
+/// The client that has to leave an instance before client `t` may enter it: where the instance is
+/// serial, the least other one that has a frame in it.
 pub fn holder<S: Drop>(
     proxies: &Proxies,
     load: &Load,

@@ -1,7 +1,9 @@
-//! What stands between domains: whether a call may cross, where it goes, and what it does to the objects that it passes and lends.
+//! What stands between domains: whether a call may cross, where it goes, and what it does to the
+//! objects that it passes and lends.
 //!
-//! RedLeaf (OSDI 2020, section 3.1) puts a proxy at each crossing. It checks that the called domain lives, and moves or lends the `RRef`s
-//! among the arguments. Here a crossing is asked about first, then made by the machine; none of these calls but the table's takes memory.
+//! RedLeaf (OSDI 2020, section 3.1) puts a proxy at each crossing. It checks that the called domain
+//! lives, and moves or lends the `RRef`s among the arguments. Here a crossing is asked about first,
+//! then made by the machine; none of these calls but the table's takes memory.
 #![tactic(auto)]
 
 mod crossing;

@@ -11,7 +11,8 @@ use machine_defs::values::{Arg, Owner};
 use rl_defs::values::Value;
 use rref_heap::Heap;
 
-/// The arguments of a call that enters: each moved object passes to the owner, which lives, and each lent one gains a loan.
+/// The arguments of a call that enters: each moved object passes to the owner, which lives, and
+/// each lent one gains a loan.
 pub fn hand_over(heap: &mut Heap, args: &[Arg], to: Owner)
     requires may { MayGive heap.old.rows args.now }
     requires owner { MayOwn heap.old to }
@@ -30,7 +31,8 @@ pub fn hand_over(heap: &mut Heap, args: &[Arg], to: Owner)
     }
 }
 
-/// The arguments of a call that is refused: each moved object leaves the heap, and what hung in it is listed for the sweep.
+/// The arguments of a call that is refused: each moved object leaves the heap, and what hung in it
+/// is listed for the sweep.
 pub fn give_up(heap: &mut Heap, args: &[Arg])
     requires free { All (IsFree heap.old.rows) (moved_of args.now) }
     requires once { are_distinct (moved_of args.now) ≡ true }
@@ -45,8 +47,8 @@ pub fn give_up(heap: &mut Heap, args: &[Arg])
     }
 }
 
-/// The loans of a call end with it. An object whose last loan ends, and whose owner has ended, is listed for the sweep, with what hangs in
-/// it.
+/// The loans of a call end with it. An object whose last loan ends, and whose owner has ended, is
+/// listed for the sweep, with what hangs in it.
 pub fn end_loans(heap: &mut Heap, lent: &[u64], instances: &Instances)
     requires { All (IsLent heap.old.rows lent.now) lent.now }
     ensures { heap.new
@@ -73,8 +75,8 @@ fn owner_has_ended(heap: &Heap, o: u64, instances: &Instances) -> bool
     }
 }
 
-/// The results of a call that returns: each object passes to the owner. Where that has ended, as `ended` tells, it is listed for the sweep,
-/// with what hangs in it.
+/// The results of a call that returns: each object passes to the owner. Where that has ended, as
+/// `ended` tells, it is listed for the sweep, with what hangs in it.
 pub fn hand_back(heap: &mut Heap, results: &[Value], to: Owner, ended: bool)
     requires unlent { All (IsUnlent heap.old.rows) (objects_in results.now) }
     requires owner { MayOwn heap.old to }

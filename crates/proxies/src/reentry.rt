@@ -22,7 +22,8 @@ pub enum Reentry {
     Unwound,
     /// The instance of the shadow has ended, and has to be loaded again first.
     Reload,
-    /// The instance is serial, and this client, the least other one that has a frame in it, has to leave it first.
+    /// The instance is serial, and this client, the least other one that has a frame in it, has to
+    /// leave it first.
     Wait(u32),
 }
 

@@ -28,8 +28,8 @@ impl Model for Found {
     ghost view = { λ f. record { load = f.load; has = f.has } };
 }
 
-/// The proxies of a load: whether each load is serial, and for each target its load and its trait. Contracts see the table, which for a
-/// load `L` is `proxies_of L`.
+/// The proxies of a load: whether each load is serial, and for each target its load and its trait.
+/// Contracts see the table, which for a load `L` is `proxies_of L`.
 #[derive(Debug, Drop)]
 pub struct Proxies {
     serial: Vec<bool>,
@@ -56,7 +56,8 @@ impl Proxies {
         Ok(Proxies { serial, targets })
     }
 
-    /// Whether one thread at a time may be in the instances of a load; not where there is no such load.
+    /// Whether one thread at a time may be in the instances of a load; not where there is no such
+    /// load.
     pub fn is_serial(&self, load: &Load, k: u32) -> bool
         requires { self.now ≡ proxies_of load.now }
         ensures { result ≡ domain.is_serial load.now k }
@@ -64,7 +65,8 @@ impl Proxies {
         self.serial_at(k).unwrap_or(false)
     }
 
-    /// The load of a target: a load is its own, and a shadow has the one that it stands for. 0 where there is no such target.
+    /// The load of a target: a load is its own, and a shadow has the one that it stands for. 0
+    /// where there is no such target.
     pub fn load_of(&self, load: &Load, target: u32) -> u32
         requires { self.now ≡ proxies_of load.now }
         ensures { result ≡ domain.load_of_target load.now target }
@@ -87,7 +89,8 @@ impl Proxies {
         }
     }
 
-    /// Whether a call of this method of the target may be issued again: where it goes through a shadow, and the method is idempotent.
+    /// Whether a call of this method of the target may be issued again: where it goes through a
+    /// shadow, and the method is idempotent.
     pub fn is_reissuable(&self, load: &Load, target: u32, method: u32) -> bool
         requires { self.now ≡ proxies_of load.now }
         ensures { result ≡ (is_shadow load.now target && is_idempotent load.now target method) }
@@ -165,7 +168,8 @@ fn found_loads(alloc: Global, rows: &LoadRows) -> Result<Vec<Found>, AllocError>
     Ok(targets)
 }
 
-// What the shadows stand for as targets: each for its load. They are numbered on after the last load.
+// What the shadows stand for as targets: each for its load. They are numbered on after the last
+// load.
 fn find_shadows(targets: &mut Vec<Found>, rows: &LoadRows) -> Result<(), AllocError>
     requires { targets.old.items ≡ map (found_at rows.now) (range_with_len 1 (length rows.now.loads)) }
     ensures { OnOk result (targets.new.items

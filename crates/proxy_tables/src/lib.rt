@@ -1,5 +1,5 @@
-//! The tables that proxies are made from: structs and traits as the kinds of their cells, parameters and results (RedLeaf, section
-//! 3.1: proxies).
+//! The tables that proxies are made from: structs and traits as the kinds of their cells,
+//! parameters and results (RedLeaf, section 3.1: proxies).
 #![tactic(auto)]
 
 mod flat;

@@ -6,8 +6,10 @@ ghost use Rattle.proxy_tables.specs.Names.{method_names};
 use rl_defs::name::Name;
 use rl_defs::tables::{MethodRow, Tables};
 
-/// The number of the method of a trait that has this name, from 0. None exactly where the trait has no such method. The trait has
-/// fewer than 2^32 methods, as [`few_methods`](crate::laws::few_methods) says of the tables of a part with fewer than 2^32 lines.
+/// The number of the method of a trait that has this name, from 0. None exactly where the trait has
+/// no such method. The trait has fewer than 2^32 methods, as
+/// [`few_methods`](crate::laws::few_methods) says of the tables of a part with fewer than 2^32
+/// lines.
 pub fn method(tables: &Tables, t: u32, name: &Name) -> Option<u32>
     requires there { t < length tables.now.traits }
     requires few { IfSome (slice_get tables.now.traits t) (λ row. length row.methods < 2 ^ 32) }

@@ -148,8 +148,8 @@ fn trait_rows(
     Ok(rows)
 }
 
-/// The tables of an interface part whose types were checked, or the first line that the rules 20 to 23 refuse, with the lowest of these
-/// rules there.
+/// The tables of an interface part whose types were checked, or the first line that the rules 20 to
+/// 23 refuse, with the lowest of these rules there.
 pub fn build(alloc: Global, types: Types, idl: &Idl) -> Result<Tables, LoadFault>
     requires few { length idl.now.lines < 2 ^ 32 }
     requires rises { Rises idl.now.lines }

@@ -3,8 +3,8 @@ ghost use Rattle.std.specs.Prelude.{◌≡◌, ◌≢◌, ◌⊎◌, IfNone, IfS
 
 use redleaf_app::Status;
 
-/// The line that tells why a call ended with a status. None exactly where the answer on standard output tells it: where all was done, and
-/// where the bundle is refused.
+/// The line that tells why a call ended with a status. None exactly where the answer on standard
+/// output tells it: where all was done, and where the bundle is refused.
 pub(crate) fn told(status: Status) -> Option<&'static str>
     ensures none { IfNone result ((status ≡ Status.Done) ⊎ (status ≡ Status.Refused)) }
     ensures some { IfSome result (λ _. (status ≢ Status.Done) × (status ≢ Status.Refused)) }

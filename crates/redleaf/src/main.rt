@@ -1,5 +1,6 @@
-//! The program: it serves the words of its command line from standard input to standard output, and tells on standard error why a bundle is
-//! refused, and what was in the way of any other call that wasn't done.
+//! The program: it serves the words of its command line from standard input to standard output, and
+//! tells on standard error why a bundle is refused, and what was in the way of any other call that
+//! wasn't done.
 #![tactic(auto)]
 
 mod ends;
@@ -54,7 +55,8 @@ fn serve(rt: &HostRuntime, words: &[String]) -> Status {
     status
 }
 
-/// Tells on standard error what was refused, by the bundle and by what was printed. Where that can't be told, nothing is.
+/// Tells on standard error what was refused, by the bundle and by what was printed. Where that
+/// can't be told, nothing is.
 fn explain(rt: &HostRuntime, bundle: Option<&[u8]>, printed: Option<&[u8]>) {
     let Some(printed) = printed else {
         return;

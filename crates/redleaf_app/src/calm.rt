@@ -65,39 +65,49 @@ fn give<K: Sink>(sink: &mut K, text: &[u8], status: Status) -> Status
     }
 }
 
-/// Serves the words of a command line, from the source and to the sink. `check` reads a bundle and says whether it is accepted; `run`
-/// reads a bundle, runs it in the order of the order list, and writes the history, the replies and the report. What is refused is
-/// answered by its line and rule.
+/// Serves the words of a command line, from the source and to the sink. `check` reads a bundle and
+/// says whether it is accepted; `run` reads a bundle, runs it in the order of the order list, and
+/// writes the history, the replies and the report. What is refused is answered by its line and
+/// rule.
 ///
-/// It always returns. The whole text is made before its first byte is given, and from then on no memory is taken.
+/// It always returns. The whole text is made before its first byte is given, and from then on no
+/// memory is taken.
 ///
-/// Each status but [`Status::Memory`] comes only for its cause. Where nothing fails, that is with the words of a command, a source and a
-/// sink whose counts stand still (and below their end), and at most [`LONGEST_BUNDLE`] bytes, the causes of [`Status::Usage`],
-/// [`Status::ReadFault`], [`Status::WriteFault`] and [`Status::TooLong`] are absent. So [`Status::Done`], [`Status::Refused`],
-/// [`Status::Long`] and [`Status::Memory`] are left, and with ample memory the first three. Of these the bytes decide: where a rule fails,
-/// they are refused. Else they stand for one load. With `check` that is all that is asked. With `run` the load is refused where a domain of
-/// it has a native body, since none is built yet; else its turns go round the order list, and either every client comes to the end of its
-/// script, or the history is full before.
+/// Each status but [`Status::Memory`] comes only for its cause. Where nothing fails, that is with
+/// the words of a command, a source and a sink whose counts stand still (and below their end), and
+/// at most [`LONGEST_BUNDLE`] bytes, the causes of [`Status::Usage`], [`Status::ReadFault`],
+/// [`Status::WriteFault`] and [`Status::TooLong`] are absent. So [`Status::Done`],
+/// [`Status::Refused`], [`Status::Long`] and [`Status::Memory`] are left, and with ample memory the
+/// first three. Of these the bytes decide: where a rule fails, they are refused. Else they stand
+/// for one load. With `check` that is all that is asked. With `run` the load is refused where a
+/// domain of it has a native body, since none is built yet; else its turns go round the order list,
+/// and either every client comes to the end of its script, or the history is full before.
 pub fn redleaf_calm<S: Source, K: Sink>(
     alloc: Global,
     words: &[String],
     source: &mut S,
     sink: &mut K,
 ) -> Status
-    // The command did what it is asked for with the source's bytes, and the whole text that tells of it was written: `accepted`, where no
-    // rule fails, or the text of a whole and ordered run of the load that the bytes are accepted as.
+    // The command did what it is asked for with the source's bytes, and the whole text that tells
+    // of it was written: `accepted`, where no rule fails, or the text of a whole and ordered run of
+    // the load that the bytes are accepted as.
     ensures done { result ≡ Status.Done
-        → WasDone LONGEST_BUNDLE (map string_bytes words.now) (S.left source.old) (S.left source.new) (K.given sink.old) (K.given sink.new) }
-    // The bytes that were read to the end are refused: by the first rule that fails, or, with `run`, as something that isn't built.
+        → WasDone LONGEST_BUNDLE (map string_bytes words.now) (S.left source.old) (S.left source.new)
+            (K.given sink.old) (K.given sink.new) }
+    // The bytes that were read to the end are refused: by the first rule that fails, or, with
+    // `run`, as something that isn't built.
     ensures refused { result ≡ Status.Refused
-        → WasRefused LONGEST_BUNDLE (map string_bytes words.now) (S.left source.old) (S.left source.new) (K.given sink.old) (K.given sink.new) }
-    // The bytes are accepted, and the whole text of an ordered run of their load was written, which stopped before its end, since the
-    // history was full.
+        → WasRefused LONGEST_BUNDLE (map string_bytes words.now) (S.left source.old) (S.left source.new)
+            (K.given sink.old) (K.given sink.new) }
+    // The bytes are accepted, and the whole text of an ordered run of their load was written, which
+    // stopped before its end, since the history was full.
     ensures long { result ≡ Status.Long
-        → WasFull LONGEST_BUNDLE (map string_bytes words.now) (S.left source.old) (S.left source.new) (K.given sink.old) (K.given sink.new) }
+        → WasFull LONGEST_BUNDLE (map string_bytes words.now) (S.left source.old) (S.left source.new)
+            (K.given sink.old) (K.given sink.new) }
     // A front of the text of Done, of Refused or of Long.
     ensures cut_off { result ≡ Status.WriteFault
-        → WasCutOff LONGEST_BUNDLE (map string_bytes words.now) (S.left source.old) (S.left source.new) (K.given sink.old) (K.given sink.new) }
+        → WasCutOff LONGEST_BUNDLE (map string_bytes words.now) (S.left source.old) (S.left source.new)
+            (K.given sink.old) (K.given sink.new) }
 
     ensures usage { (result ≡ Status.Usage) ↔ AreOfNone (map string_bytes words.now) }
     ensures read_fault { result ≡ Status.ReadFault → Rose (S.faults source.old) (S.faults source.new) }

@@ -16,7 +16,8 @@ fn digits_len(bytes: &[u8]) -> usize
 // The value of digits, where it fits.
 fn value_of(digits: &[u8]) -> Option<u64>
     requires { AllDigits 10 digits.now }
-    ensures { MatchOption result (2 ^ 64 ≤ digits_value 10 digits.now) (λ n. (n ≡ digits_value 10 digits.now) × (n < 2 ^ 64)) }
+    ensures { MatchOption result (2 ^ 64 ≤ digits_value 10 digits.now)
+        (λ n. (n ≡ digits_value 10 digits.now) × (n < 2 ^ 64)) }
 {
     let mut value = 0u64;
     for digit in digits {
@@ -28,7 +29,8 @@ fn value_of(digits: &[u8]) -> Option<u64>
 // The number with one digit more, where it fits.
 fn append_digit(value: u64, digit: u8) -> Option<u64>
     requires { IsInRange 48 57 digit }
-    ensures { MatchOption result (2 ^ 64 ≤ value * 10 + (digit - 48)) (λ n. (n ≡ value * 10 + (digit - 48)) × (n < 2 ^ 64)) }
+    ensures { MatchOption result (2 ^ 64 ≤ value * 10 + (digit - 48))
+        (λ n. (n ≡ value * 10 + (digit - 48)) × (n < 2 ^ 64)) }
 {
     value.checked_mul(10)?.checked_add(u64::from(digit - b'0'))
 }
@@ -36,7 +38,8 @@ fn append_digit(value: u64, digit: u8) -> Option<u64>
 // The number that the digits spell, in its one spelling.
 fn number_of(digits: &[u8]) -> Option<u64>
     requires { AllDigits 10 digits.now }
-    ensures { MatchOption result ((n : ℕ) → n < 2 ^ 64 → digits.now ≢ decimal n) (λ n. (digits.now ≡ decimal n) × (n < 2 ^ 64)) }
+    ensures { MatchOption result ((n : ℕ) → n < 2 ^ 64 → digits.now ≢ decimal n)
+        (λ n. (digits.now ≡ decimal n) × (n < 2 ^ 64)) }
 {
     if digits.is_empty() {
         return None;
@@ -47,7 +50,8 @@ fn number_of(digits: &[u8]) -> Option<u64>
     value_of(digits)
 }
 
-/// The number at the front, in its one spelling, and what follows its last digit. None where no such number below 2^64 stands there.
+/// The number at the front, in its one spelling, and what follows its last digit. None where no
+/// such number below 2^64 stands there.
 pub fn number_at(bytes: &[u8]) -> Option<(u64, &[u8])>
     ensures found { IfSome result (λ r. (bytes.now ≡ decimal r.0 ++ r.1.now) × (r.0 < 2 ^ 64) × NoDigit r.1.now) }
     ensures none { IfNone result ((n : ℕ) (rest : List ℕ) → n < 2 ^ 64 → NoDigit rest → bytes.now ≢ decimal n ++ rest) }

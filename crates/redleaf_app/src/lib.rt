@@ -1,4 +1,5 @@
-//! What the program does with its input and output: one call from the bytes that come in to the bytes that go out.
+//! What the program does with its input and output: one call from the bytes that come in to the
+//! bytes that go out.
 #![tactic(auto)]
 
 mod calm;

@@ -18,7 +18,8 @@ use std::alloc::{AllocError, Global};
 // What is not built yet is refused so.
 const NOT_BUILT: Refusal = Refusal { line: 0, rule: 99 };
 
-// Runs a world that was just made until every client is done or the history is full, and answers the text of the run.
+// Runs a world that was just made until every client is done or the history is full, and answers
+// the text of the run.
 fn run_to_end(alloc: Global, world: &mut World) -> Result<Reply, AllocError>
     requires log { world.old.log ≡ [] }
     requires state { world.old.state ≡ start world.old.load }

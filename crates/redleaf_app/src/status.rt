@@ -17,7 +17,8 @@ pub enum Status {
     WriteFault = 4,
     /// 5: memory ran out. Nothing was written.
     Memory = 5,
-    /// 6: the history was full before every client was done. The whole text of the run so far was written.
+    /// 6: the history was full before every client was done. The whole text of the run so far was
+    /// written.
     Long = 6,
     /// 7: the input is longer than a bundle may be. Nothing was written.
     TooLong = 7,

@@ -141,7 +141,8 @@ device driver 64
 bind fs.disk = driver
 ";
 
-// What comes of the bytes of a bundle with this word, of which 10 are taken at a time, with this `take` failing and this room for the text.
+// What comes of the bytes of a bundle with this word, of which 10 are taken at a time, with this
+// `take` failing and this room for the text.
 fn served(
     alloc: Global,
     word: &str,

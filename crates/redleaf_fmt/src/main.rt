@@ -75,7 +75,8 @@ fn told(status: Status) -> Option<&'static [u8]> {
     }
 }
 
-// The exit status of a way to end, and a line on standard error where something is to be told of it.
+// The exit status of a way to end, and a line on standard error where something is to be told of
+// it.
 fn ended(rt: &HostRuntime, status: Status) -> ExitCode {
     if let Some(text) = told(status) {
         let _ = rt.stderr().write_all(text);

@@ -26,7 +26,8 @@ pub struct Case<'a> {
     pub alloc: Global,
     bytes: &'a [u8],
     lines: &'a [Line],
-    /// The number of the refused line, from 1; one more than the last line's where the end of the bundle is refused.
+    /// The number of the refused line, from 1; one more than the last line's where the end of the
+    /// bundle is refused.
     pub number: usize,
     /// The tokens of the refused line.
     pub row: Vec<Token<'a>>,
@@ -59,7 +60,8 @@ pub enum Seek<'s> {
     AnyClient,
     /// A line of a script that binds the name.
     Binds(&'s [u8]),
-    /// A line of a script that drops the name, or passes it to a call and neither lends nor copies a target.
+    /// A line of a script that drops the name, or passes it to a call and neither lends nor copies
+    /// a target.
     Passes(&'s [u8]),
 }
 
@@ -132,7 +134,8 @@ fn names(row: &[Token<'_>], word: &[u8], name: &[u8]) -> bool {
     is(row, 0, word) && is(row, 1, name)
 }
 
-/// Whether a line of an interface part begins with a word, with `pub` before it or not, and names this behind it.
+/// Whether a line of an interface part begins with a word, with `pub` before it or not, and names
+/// this behind it.
 pub fn declares(row: &[Token<'_>], word: &[u8], name: &[u8]) -> bool {
     let first = if is(row, 0, b"pub") { 1usize } else { 0 };
     is(row, first, word) && is(row, first + 1, name)
@@ -256,7 +259,8 @@ impl<'a> Case<'a> {
         Ok(heads)
     }
 
-    /// The part in which a line stands, with the line of its header: that of the last header before it.
+    /// The part in which a line stands, with the line of its header: that of the last header before
+    /// it.
     pub fn part_of(&self, number: usize) -> Result<Option<(Part, usize)>, AllocError> {
         let mut found = None;
         'lines: for line in 1..number.min(self.lines.len().saturating_add(1)) {
@@ -323,7 +327,8 @@ impl<'a> Case<'a> {
         }
     }
 
-    /// The lines behind one that opens a block, up to the next that opens one like it, or the end of the part.
+    /// The lines behind one that opens a block, up to the next that opens one like it, or the end
+    /// of the part.
     pub fn block(&self, part: Part, opener: usize, seek: Seek<'_>) -> Result<Span, AllocError> {
         let whole = Span {
             from: opener.saturating_add(1),

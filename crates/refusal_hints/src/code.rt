@@ -318,7 +318,8 @@ fn is_object(held: Held<'_>) -> bool {
     matches!(held, Held::Own(_) | Held::Lent(_))
 }
 
-// Whether a loan or an interface isn't written as its parameter wants it: a loan with `&`, an interface without.
+// Whether a loan or an interface isn't written as its parameter wants it: a loan with `&`, an
+// interface without.
 fn is_lent_as_other(row: &[Token<'_>], place: usize, wanted: Held<'_>) -> bool {
     let lends = is(row, place.saturating_sub(1), b"&");
     match wanted {
@@ -327,7 +328,8 @@ fn is_lent_as_other(row: &[Token<'_>], place: usize, wanted: Held<'_>) -> bool {
     }
 }
 
-// Whether an object is of the struct that is wanted, but moved where it is to be lent, or lent where it is to be moved.
+// Whether an object is of the struct that is wanted, but moved where it is to be lent, or lent
+// where it is to be moved.
 fn is_other_way(held: Held<'_>, wanted: Held<'_>) -> bool {
     match (held, wanted) {
         (Held::Own(of), Held::Own(other)) => of == other,

@@ -1,4 +1,5 @@
-//! Rule 1 where a line has tokens: the form that its first word asks for, and the first token that doesn't fit it.
+//! Rule 1 where a line has tokens: the form that its first word asks for, and the first token that
+//! doesn't fit it.
 
 use crate::case::{Case, Part, is_head};
 use crate::hint::Hint;

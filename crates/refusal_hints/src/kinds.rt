@@ -1,4 +1,5 @@
-//! What methods take and return, and what registers and names of scripts hold, as far as one line says it.
+//! What methods take and return, and what registers and names of scripts hold, as far as one line
+//! says it.
 
 use crate::case::{Case, Part, Seek};
 use crate::tokens::{Token, at, find, is, is_name, number_at};
@@ -85,7 +86,8 @@ pub fn param_places(alloc: Global, row: &[Token<'_>]) -> Result<Vec<usize>, Allo
     Ok(all)
 }
 
-// The place of a method's first result, and whether others may stand beside it. None where there is no result.
+// The place of a method's first result, and whether others may stand beside it. None where there is
+// no result.
 fn first_result(row: &[Token<'_>]) -> Option<(usize, bool)> {
     let arrow = find(row, 0, b"->")?;
     let mut start = arrow.saturating_add(1);
@@ -158,8 +160,8 @@ pub fn are_sure(all: &[Held<'_>]) -> bool {
     true
 }
 
-/// How many kinds a type flattens to that stands from one place up to another one. None where it holds a struct by value, or a type that
-/// may not cross.
+/// How many kinds a type flattens to that stands from one place up to another one. None where it
+/// holds a struct by value, or a type that may not cross.
 pub fn width(row: &[Token<'_>], from: usize, to: usize) -> Option<u64> {
     let mut count = 1u64;
     'places: for place in from..to {

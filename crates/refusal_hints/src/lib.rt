@@ -1,5 +1,5 @@
-//! Why a line of a bundle is refused, as far as that is sure: the place in the line, what was found there, what was expected, and another
-//! line that has to do with it.
+//! Why a line of a bundle is refused, as far as that is sure: the place in the line, what was found
+//! there, what was expected, and another line that has to do with it.
 #![tactic(auto)]
 
 mod case;

@@ -84,7 +84,8 @@ fn count(row: &[Token<'_>], places: &[usize], end: usize) -> Option<u64> {
     Some(sum)
 }
 
-// Where a type ends that another one follows: before the comma, the next name and its colon, or before the comma.
+// Where a type ends that another one follows: before the comma, the next name and its colon, or
+// before the comma.
 fn behind_type(row: &[Token<'_>], next: usize, followed: bool) -> usize {
     if !followed {
         return next;

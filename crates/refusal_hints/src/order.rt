@@ -15,7 +15,8 @@ struct Before {
     last: usize,
     ends: bool,
     marks: bool,
-    // The first lines of the innermost domain that declare words, a slot, a native body and a function, 0 where there is none.
+    // The first lines of the innermost domain that declare words, a slot, a native body and a
+    // function, 0 where there is none.
     words: usize,
     slot: usize,
     native: usize,

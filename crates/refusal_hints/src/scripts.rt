@@ -499,7 +499,8 @@ fn names_used(case: &Case<'_>) -> Result<Vec<usize>, AllocError> {
     Ok(all)
 }
 
-// The line behind the one that binds a name which drops or passes it, where it is bound to an object.
+// The line behind the one that binds a name which drops or passes it, where it is bound to an
+// object.
 fn gone_by(case: &Case<'_>, name: &[u8]) -> Result<Option<usize>, AllocError> {
     let Some(found) = binding_of(case, name)? else {
         return Ok(None);

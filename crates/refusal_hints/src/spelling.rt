@@ -1,4 +1,5 @@
-//! Rule 1 where a line has no tokens: bytes that may not stand there, and numbers, words and texts that are none.
+//! Rule 1 where a line has no tokens: bytes that may not stand there, and numbers, words and texts
+//! that are none.
 
 use crate::hint::{Hint, digits};
 use crate::tokens::part;

@@ -42,7 +42,8 @@ fn sort_of(lexeme: Lexeme) -> Sort {
     }
 }
 
-/// Puts the tokens of a line in place of what was there, as far as the line has tokens. A line that is too long has none.
+/// Puts the tokens of a line in place of what was there, as far as the line has tokens. A line that
+/// is too long has none.
 pub fn read<'a>(all: &mut Vec<Token<'a>>, line: &'a [u8]) -> Result<(), AllocError> {
     all.clear();
     if line.len() > LONGEST_LINE {

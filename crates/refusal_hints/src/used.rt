@@ -216,7 +216,8 @@ fn script(case: &Case<'_>) -> Result<Span, AllocError> {
     })
 }
 
-// Whether an import of a load is declared. It is taken to be so where the load's domain isn't known.
+// Whether an import of a load is declared. It is taken to be so where the load's domain isn't
+// known.
 fn has_import(case: &Case<'_>, load: &[u8], import: &[u8]) -> Result<bool, AllocError> {
     let Some(line) = case.first(case.span(Part::Plan), Seek::Load(load))? else {
         return Ok(true);
@@ -230,7 +231,8 @@ fn has_import(case: &Case<'_>, load: &[u8], import: &[u8]) -> Result<bool, Alloc
     Ok(case.first(block, Seek::Import(import))?.is_some())
 }
 
-// Whether the trait of the domain round the refused line has a method. It is taken to be so where the trait isn't known.
+// Whether the trait of the domain round the refused line has a method. It is taken to be so where
+// the trait isn't known.
 fn has_method(case: &Case<'_>, name: &[u8]) -> Result<bool, AllocError> {
     let Some(opener) = case.last(case.before(Part::Domains), Seek::AnyDomain)? else {
         return Ok(true);

@@ -1,4 +1,5 @@
-//! A walk over the tokens of a line by the form that it is to have, up to the first token that doesn't fit.
+//! A walk over the tokens of a line by the form that it is to have, up to the first token that
+//! doesn't fit.
 
 use crate::tokens::{Sort, Token, at, is, is_name, number_at, register};
 
@@ -25,9 +26,10 @@ pub enum Tail {
     ScriptCall,
 }
 
-/// A form of a line: how it is written in documents, its tokens behind its first word, and what stands behind them. In a pattern `n` is
-/// a name, `r` a register, `d` a number, `p` a number in decimal digits, `t` a text, `i` the word `idempotent`, `w` the word `new`, `s`
-/// the word `restarts`; every other byte is a mark.
+/// A form of a line: how it is written in documents, its tokens behind its first word, and what
+/// stands behind them. In a pattern `n` is a name, `r` a register, `d` a number, `p` a number in
+/// decimal digits, `t` a text, `i` the word `idempotent`, `w` the word `new`, `s` the word
+/// `restarts`; every other byte is a mark.
 #[derive(Clone, Copy, Debug)]
 pub struct Form {
     pub shown: &'static [u8],
@@ -300,7 +302,8 @@ impl<'t, 'a> Walk<'t, 'a> {
         Ok(())
     }
 
-    // Passes one wrap of a type and answers what closes it: nothing for a reference, and None where no wrap comes next.
+    // Passes one wrap of a type and answers what closes it: nothing for a reference, and None where
+    // no wrap comes next.
     fn wrap(&mut self) -> Result<Option<u8>, Miss> {
         if self.skip(b"[") {
             return Ok(Some(b']'));

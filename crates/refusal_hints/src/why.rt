@@ -7,8 +7,8 @@ use rl_defs::Refusal;
 use rl_text::line::Line;
 use std::alloc::{AllocError, Global};
 
-/// Why a line of a bundle is refused by a rule, as far as that is sure, by the bundle's bytes and lines. `AllocError` where memory ran
-/// out.
+/// Why a line of a bundle is refused by a rule, as far as that is sure, by the bundle's bytes and
+/// lines. `AllocError` where memory ran out.
 pub fn why(alloc: Global, bytes: &[u8], lines: &[Line], at: Refusal) -> Result<Hint, AllocError> {
     let mut hint = Hint::new(alloc);
     let case = Case::new(alloc, bytes, lines, at.line as usize)?;

@@ -4,8 +4,8 @@ ghost use Rattle.refusal_notes.specs.Keeping.{Keeps};
 use std::alloc::Global;
 use std::marker::Model;
 
-/// Bytes that passed, all of them or none. Contracts see the bytes, or that they were given up: more came than may be kept, or memory
-/// ran out.
+/// Bytes that passed, all of them or none. Contracts see the bytes, or that they were given up:
+/// more came than may be kept, or memory ran out.
 #[derive(Drop)]
 pub struct Kept {
     bytes: Vec<u8>,

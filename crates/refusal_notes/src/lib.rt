@@ -1,4 +1,5 @@
-//! What is told of a refusal beside the program's output: the place, the rule in a plain sentence, the line, and why it is refused.
+//! What is told of a refusal beside the program's output: the place, the rule in a plain sentence,
+//! the line, and why it is refused.
 #![tactic(auto)]
 
 pub mod keeping;

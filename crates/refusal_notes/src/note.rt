@@ -170,7 +170,8 @@ fn blanks(text: &[u8]) -> usize {
         .count()
 }
 
-// A column that points into a line: this one where it does, or else that of the first byte that is no blank.
+// A column that points into a line: this one where it does, or else that of the first byte that is
+// no blank.
 fn column_in(line: Option<&[u8]>, column: usize) -> usize
     ensures { PointsInto (option_copied line.entry) result }
 {
@@ -249,9 +250,11 @@ fn long_note(
     Ok(out)
 }
 
-/// What is told of a refusal: its place, the rule with a sentence that says what it refuses, the line with a mark under the place, what
-/// was found and what was expected as far as that is sure, another line that has to do with it, and where the rule is explained. The
-/// bytes are those of the bundle, where they are at hand. Where memory runs out while a reason is looked for, none is told.
+/// What is told of a refusal: its place, the rule with a sentence that says what it refuses, the
+/// line with a mark under the place, what was found and what was expected as far as that is sure,
+/// another line that has to do with it, and where the rule is explained. The bytes are those of the
+/// bundle, where they are at hand. Where memory runs out while a reason is looked for, none is
+/// told.
 pub fn note(alloc: Global, at: Refusal, bytes: Option<&[u8]>) -> Result<Vec<u8>, AllocError>
     requires { IfSome bytes (λ b. length b.now ≤ LONGEST_TEXT) }
     ensures { IfOk result (λ text. IsNote at.line at.rule (option_copied bytes.entry) text.items) }

@@ -12,8 +12,9 @@ use crate::code::{DomainLine, DomainText, Register};
 use crate::tables::{SharedTables, Tables};
 use std::marker::Model;
 
-/// Where control goes on: at a line that is no head, where some registers are emptied by the heads before it. They stand from one place
-/// up to another one in a list that the lines of a domain share.
+/// Where control goes on: at a line that is no head, where some registers are emptied by the heads
+/// before it. They stand from one place up to another one in a list that the lines of a domain
+/// share.
 #[derive(Clone, Copy, Debug)]
 pub struct Way {
     pub line: u32,
@@ -24,9 +25,11 @@ pub struct Way {
 /// What is kept beside a line: found once, so that no step of a run looks a name up.
 #[derive(Clone, Copy, Debug)]
 pub struct LineRow {
-    /// The struct, slot, import or method that the line names, by its number. A `ret` names the method of its function.
+    /// The struct, slot, import or method that the line names, by its number. A `ret` names the
+    /// method of its function.
     pub number: u32,
-    /// The trait of the interface that the line calls, or of the domain that returns, or the struct of the object whose cell is set.
+    /// The trait of the interface that the line calls, or of the domain that returns, or the struct
+    /// of the object whose cell is set.
     pub of: u32,
     /// The place of the head of the label that the line names.
     pub label: u32,
@@ -36,7 +39,8 @@ pub struct LineRow {
     pub jump: Way,
 }
 
-/// A domain that keeps the rules. Contracts see its lines, and the tables that its names are looked up in.
+/// A domain that keeps the rules. Contracts see its lines, and the tables that its names are looked
+/// up in.
 #[derive(Debug, Drop)]
 pub struct CheckedDomain {
     text: DomainText,
@@ -60,8 +64,9 @@ impl Model for CheckedDomain {
 }
 
 impl CheckedDomain {
-    /// The domain of a text that keeps the rules with these tables. Beside it are kept a row for each line; the registers that heads
-    /// empty, of which the rows name parts; and the place of the first line of the function for each method of its trait.
+    /// The domain of a text that keeps the rules with these tables. Beside it are kept a row for
+    /// each line; the registers that heads empty, of which the rows name parts; and the place of
+    /// the first line of the function for each method of its trait.
     pub fn new(
         text: DomainText,
         tables: SharedTables,
@@ -106,7 +111,8 @@ impl CheckedDomain {
         self.rows[place]
     }
 
-    /// Where control stands that comes to a line from the line before it, and the registers that are emptied on the way.
+    /// Where control stands that comes to a line from the line before it, and the registers that
+    /// are emptied on the way.
     pub fn here(&self, place: usize) -> (u32, &[Register])
         requires { place < length self.now.lines }
         ensures { LeadsHere self.now place result.0 result.1.now }
@@ -115,7 +121,8 @@ impl CheckedDomain {
         (way.line, &self.emptied[way.from as usize..way.to as usize])
     }
 
-    /// Where control stands that goes to the label of an instruction, and the registers that are emptied on the way.
+    /// Where control stands that goes to the label of an instruction, and the registers that are
+    /// emptied on the way.
     pub fn jump(&self, place: usize) -> (u32, &[Register])
         requires { place < length self.now.lines }
         ensures { (k : ℕ) (i : AnInstr)
@@ -126,7 +133,8 @@ impl CheckedDomain {
         (way.line, &self.emptied[way.from as usize..way.to as usize])
     }
 
-    /// The place of the first line of the function for a method of the domain's trait, by the method's number.
+    /// The place of the first line of the function for a method of the domain's trait, by the
+    /// method's number.
     pub fn entry(&self, method: usize) -> u32
         ensures { (place : ℕ) → entry_at self.now method ≡ Some place → result ≡ place }
     {

@@ -57,7 +57,8 @@ pub struct Param {
     pub ty: TypeText,
 }
 
-/// What stands behind the parameters of a method. `()` is no type, one type stands alone, more stand in parentheses.
+/// What stands behind the parameters of a method. `()` is no type, one type stands alone, more
+/// stand in parentheses.
 #[derive(Debug, Drop)]
 pub enum ResultText {
     /// Nothing.

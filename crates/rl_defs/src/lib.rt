@@ -1,8 +1,9 @@
 //! The data of the domain machine, and the definitions that contracts cite.
 //!
-//! RedLeaf (OSDI 2020) keeps kernel parts, *domains*, apart by language safety alone. This crate has what all layers of the
-//! model share: names, tables of interfaces, domain code, loads, frames, actions and the entries of a history. `specs/` has
-//! the machine itself: its states, its steps and its runs.
+//! RedLeaf (OSDI 2020) keeps kernel parts, *domains*, apart by language safety alone. This crate
+//! has what all layers of the model share: names, tables of interfaces, domain code, loads, frames,
+//! actions and the entries of a history. `specs/` has the machine itself: its states, its steps and
+//! its runs.
 #![tactic(auto)]
 
 ghost use Rattle.std.specs.Prelude.{◌≡◌};

@@ -8,7 +8,8 @@ use crate::name::Name;
 use crate::tables::SharedTables;
 use std::marker::Model;
 
-/// An argument of a client's call. A script name is its place among the names that the client's commands bind, from 0.
+/// An argument of a client's call. A script name is its place among the names that the client's
+/// commands bind, from 0.
 #[derive(Clone, Copy, Debug, PartialEq, Eq)]
 pub enum ScriptArg {
     Num(u64),
@@ -50,7 +51,8 @@ pub enum Command {
     Kill(u32),
 }
 
-/// A load: a domain that is to run, with the targets that its imports are bound to, in the order of its imports.
+/// A load: a domain that is to run, with the targets that its imports are bound to, in the order of
+/// its imports.
 #[derive(Debug, Drop)]
 pub struct LoadRow {
     pub name: Name,
@@ -61,7 +63,8 @@ pub struct LoadRow {
     pub binds: List<u32>,
 }
 
-/// A shadow: it stands for a load, and reloads it at most so often after it has ended (RedLeaf, section 3.2).
+/// A shadow: it stands for a load, and reloads it at most so often after it has ended (RedLeaf,
+/// section 3.2).
 #[derive(Debug, Drop)]
 pub struct ShadowRow {
     pub name: Name,
@@ -77,7 +80,8 @@ pub struct ClientRow {
     pub commands: List<Command>,
 }
 
-/// The rows of a load. Loads are numbered from 1, shadows on after them: these numbers are the targets. Clients are numbered from 1.
+/// The rows of a load. Loads are numbered from 1, shadows on after them: these numbers are the
+/// targets. Clients are numbered from 1.
 #[derive(Debug, Drop)]
 pub struct LoadRows {
     pub tables: SharedTables,

@@ -81,8 +81,8 @@ impl Name {
         Name::of_run(bytes)
     }
 
-    /// The name that letters, digits and `_` are which begin with no digit and are no reserved word, where they are short enough. They
-    /// aren't gone over again.
+    /// The name that letters, digits and `_` are which begin with no digit and are no reserved
+    /// word, where they are short enough. They aren't gone over again.
     pub fn of_run(run: &[u8]) -> Option<Name>
         requires begins { IsTrue (starts_word run.now) }
         requires inside { IsTrue (list_all is_word_byte run.now) }
@@ -110,7 +110,8 @@ impl Name {
     }
 }
 
-/// Whether the bytes are a word: a letter or `_`, then letters, digits and `_`, 1 to 24 bytes in all.
+/// Whether the bytes are a word: a letter or `_`, then letters, digits and `_`, 1 to 24 bytes in
+/// all.
 pub fn is_word(bytes: &[u8]) -> bool
     ensures { result ≡ is_word bytes.now }
 {

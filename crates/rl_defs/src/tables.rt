@@ -1,4 +1,5 @@
-//! Interfaces as rows: structs as the kinds of their cells, and traits as the kinds of their methods.
+//! Interfaces as rows: structs as the kinds of their cells, and traits as the kinds of their
+//! methods.
 ghost use Rattle.std.specs.Prelude.{◌≡◌, IfOk};
 
 use crate::list::List;
@@ -83,7 +84,8 @@ impl SharedTables {
         Ok(SharedTables { tables })
     }
 
-    /// The same tables, for one owner more. `AllocError` where there are as many owners as can be counted.
+    /// The same tables, for one owner more. `AllocError` where there are as many owners as can be
+    /// counted.
     pub fn share(&self) -> Result<SharedTables, AllocError>
         ensures { IfOk result (λ t. t ≡ self.now) }
     {

@@ -11,7 +11,8 @@ use std::marker::Model;
 
 /// A source over any reader. It tells no bytes.
 ///
-/// Its count of faults rises at each `Err` of the reader and at nothing else, and stays at the greatest `u64`.
+/// Its count of faults rises at each `Err` of the reader and at nothing else, and stays at the
+/// greatest `u64`.
 #[derive(Drop)]
 pub struct StdSource<R: Read + Drop> {
     inner: R,
@@ -63,8 +64,9 @@ impl<R: Read + Drop> Source for StdSource<R> {
 
 /// A sink over any writer. It tells no bytes.
 ///
-/// Its count of faults rises at each `Err` of the writer, at each write that takes 0 bytes of a piece that isn't empty,
-/// and at nothing else, and stays at the greatest `u64`. It flushes nothing.
+/// Its count of faults rises at each `Err` of the writer, at each write that takes 0 bytes of a
+/// piece that isn't empty, and at nothing else, and stays at the greatest `u64`. It flushes
+/// nothing.
 #[derive(Drop)]
 pub struct StdSink<W: Write + Drop> {
     inner: W,

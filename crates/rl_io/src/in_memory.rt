@@ -1,4 +1,5 @@
-//! A source and a sink in memory, which take bytes in small pieces and fail at the calls that they are told.
+//! A source and a sink in memory, which take bytes in small pieces and fail at the calls that they
+//! are told.
 ghost use Rattle.std.specs.Prelude.{◌≡◌, ◌<◌, ◌≤◌, ◌↔◌, ◌⊎◌, ◌++◌, min, length, take, drop, Some, IsErr, IfOk, MatchResult, Contains};
 ghost use Rattle.std.specs.Io.{ReadsAtMost, WritesAtMost};
 ghost use Rattle.std.specs.Io.KnownBytes.{ReadConsumes, WriteAppends};
@@ -33,7 +34,8 @@ impl Remaining {
         Remaining { bytes, at: 0 }
     }
 
-    /// Moves as many of the first bytes as there are and `most` and the buffer allow, and answers how many.
+    /// Moves as many of the first bytes as there are and `most` and the buffer allow, and answers
+    /// how many.
     pub(crate) fn take(&mut self, most: usize, buf: &mut [u8]) -> usize
         ensures count { result ≡ min (length self.old) (min most (length buf.old)) }
         ensures buffer { buf.new ≡ take result self.old ++ drop result buf.old }
@@ -47,7 +49,8 @@ impl Remaining {
     }
 }
 
-/// A source over bytes in memory, of which one call takes at most `chunk`. The calls named in `failing` fail.
+/// A source over bytes in memory, of which one call takes at most `chunk`. The calls named in
+/// `failing` fail.
 ///
 /// It counts its calls, from 1, and its faults; both counts stay at the greatest `u64`.
 #[derive(Drop)]
@@ -77,7 +80,8 @@ impl Model for MemSource {
 }
 
 impl MemSource {
-    /// A source of these bytes, which hands out at most `chunk` of them in one call and fails at the calls named.
+    /// A source of these bytes, which hands out at most `chunk` of them in one call and fails at
+    /// the calls named.
     pub fn new(bytes: Vec<u8>, chunk: usize, failing: Vec<u64>) -> Self
         requires { 0 < chunk }
         ensures { result ≡ fresh_source bytes.items chunk failing.items }
@@ -104,7 +108,8 @@ impl Source for MemSource {
 
     ghost faults = { λ s. s.faults };
 
-    /// Takes as many bytes as are left and the chunk and the buffer allow, or fails where this call is named.
+    /// Takes as many bytes as are left and the chunk and the buffer allow, or fails where this call
+    /// is named.
     fn take(&mut self, buf: &mut [u8]) -> Result<usize, Failed>
         ensures within { ReadsAtMost result buf.new }
         ensures bytes { ReadConsumes (Some self.old.left) (Some self.new.left) result buf.new }
@@ -128,11 +133,12 @@ impl Source for MemSource {
     }
 }
 
-/// A sink in memory that keeps what it is given: at most `chunk` bytes of one call and `room` bytes over all. The calls
-/// named in `failing` fail, and so does one that could take nothing of a piece that isn't empty.
+/// A sink in memory that keeps what it is given: at most `chunk` bytes of one call and `room` bytes
+/// over all. The calls named in `failing` fail, and so does one that could take nothing of a piece
+/// that isn't empty.
 ///
-/// Its room is reserved when it is made, so no call takes memory. It counts its calls, from 1, and its faults; both
-/// counts stay at the greatest `u64`.
+/// Its room is reserved when it is made, so no call takes memory. It counts its calls, from 1, and
+/// its faults; both counts stay at the greatest `u64`.
 #[derive(Drop)]
 pub struct MemSink {
     bytes: Vec<u8>,

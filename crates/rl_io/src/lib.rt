@@ -1,8 +1,8 @@
 //! The outside of the machine: where bytes come from, where they go, and what may hold up a turn.
 //!
-//! A [`Source`] and a [`Sink`] each keep a count of their faults, which never falls, and answer [`Failed`] only where
-//! it rose in that call or stands at the greatest `u64`. Code that is generic over them can't raise the count, so a
-//! caller that answers a fault can only hand one on.
+//! A [`Source`] and a [`Sink`] each keep a count of their faults, which never falls, and answer
+//! [`Failed`] only where it rose in that call or stands at the greatest `u64`. Code that is generic
+//! over them can't raise the count, so a caller that answers a fault can only hand one on.
 #![tactic(auto)]
 
 mod adapters;

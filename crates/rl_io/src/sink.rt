@@ -14,7 +14,8 @@ pub trait Sink {
     // How often it has failed.
     ghost faults: { Self → ℕ };
 
-    /// Gives the first bytes of `piece` and nothing else, and answers how many: at least one of a piece that isn't empty.
+    /// Gives the first bytes of `piece` and nothing else, and answers how many: at least one of a
+    /// piece that isn't empty.
     ///
     /// # Errors
     ///

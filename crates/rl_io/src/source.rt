@@ -14,8 +14,8 @@ pub trait Source {
     // How often it has failed.
     ghost faults: { Self → ℕ };
 
-    /// Takes some of the bytes that are left to the front of `buf`, and answers how many. 0 bytes in a buffer that
-    /// isn't empty are the end of input.
+    /// Takes some of the bytes that are left to the front of `buf`, and answers how many. 0 bytes
+    /// in a buffer that isn't empty are the end of input.
     ///
     /// # Errors
     ///

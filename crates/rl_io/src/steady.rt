@@ -5,7 +5,8 @@ use crate::in_memory::Remaining;
 use crate::{Failed, Sink, Source};
 use std::marker::Model;
 
-/// A source over bytes in memory that never fails. Contracts see it as the bytes that are left, which it tells.
+/// A source over bytes in memory that never fails. Contracts see it as the bytes that are left,
+/// which it tells.
 #[derive(Drop)]
 pub struct SteadySource {
     left: Remaining,
@@ -45,7 +46,8 @@ impl Source for SteadySource {
     }
 }
 
-/// A sink that counts the bytes given, keeps none, tells none and never fails. Contracts see it as that count.
+/// A sink that counts the bytes given, keeps none, tells none and never fails. Contracts see it as
+/// that count.
 #[derive(Drop)]
 pub struct SteadySink {
     count: u64,

@@ -37,7 +37,8 @@ fn reads_in_chunks_up_to_the_limit(rt: HostRuntime) -> Result<(), Fail> {
 
 #[test]
 fn writes_a_front_into_limited_room(rt: HostRuntime) -> Result<(), Fail> {
-    // The room, the chunk, the call that fails, whether all is written, the bytes given, and the calls made.
+    // The room, the chunk, the call that fails, whether all is written, the bytes given, and the
+    // calls made.
     let rows = [
         (10, 3, 0, true, "0123456789", 4),
         (99, 99, 2, true, "0123456789", 1),

@@ -21,7 +21,8 @@ pub enum ReadAll {
 // How many bytes the first `take` has room for.
 const FIRST_ROOM: usize = 16 * 1024;
 
-// Makes the list longer by zeros, at least twice as long, so that room for all bytes is made in few steps.
+// Makes the list longer by zeros, at least twice as long, so that room for all bytes is made in few
+// steps.
 fn lengthen(bytes: &mut Vec<u8>) -> Result<(), AllocError>
     ensures longer { OnOk result (vec_len bytes.old < vec_len bytes.new) }
     ensures front { take (vec_len bytes.old) bytes.new.items ≡ bytes.old.items }
@@ -33,12 +34,13 @@ fn lengthen(bytes: &mut Vec<u8>) -> Result<(), AllocError>
     bytes.resize(len, 0)
 }
 
-/// All bytes that the source has left, where they are at most `limit`. They go straight into the list that is answered.
+/// All bytes that the source has left, where they are at most `limit`. They go straight into the
+/// list that is answered.
 ///
 /// # Errors
 ///
-/// [`ReadAll::Fault`] where a `take` failed, [`ReadAll::TooLong`] where more than `limit` bytes came, and
-/// [`ReadAll::Memory`].
+/// [`ReadAll::Fault`] where a `take` failed, [`ReadAll::TooLong`] where more than `limit` bytes
+/// came, and [`ReadAll::Memory`].
 pub fn read_whole<S: Source>(
     alloc: Global,
     source: &mut S,

@@ -40,8 +40,8 @@ impl<T: Drop> From<AllocFailed<T>> for Stop {
     }
 }
 
-/// The tokens of a line that are left. A method that reads takes its part from the front; where there is no such part, some tokens
-/// may be gone.
+/// The tokens of a line that are left. A method that reads takes its part from the front; where
+/// there is no such part, some tokens may be gone.
 #[derive(Drop)]
 pub struct Cursor<'a> {
     line: &'a [u8],

@@ -25,8 +25,9 @@ pub enum Lexeme {
     Mark(Mark),
 }
 
-/// Puts the lexemes of a line, in order, in place of what the buffer held. The line is refused by rule 1 exactly where it breaks a
-/// sentence on lines and tokens; the buffer then holds some lexemes.
+/// Puts the lexemes of a line, in order, in place of what the buffer held. The line is refused by
+/// rule 1 exactly where it breaks a sentence on lines and tokens; the buffer then holds some
+/// lexemes.
 pub fn lexemes(all: &mut Vec<Lexeme>, bytes: &[u8], line: &Line) -> Result<(), LoadFault>
     requires { IsWithin bytes.now line.now }
     ensures { let text = text_of bytes.now line.now in

@@ -1,4 +1,5 @@
-//! Lines and tokens of a text, and what the readers of line forms stand on: lexemes, a cursor over them, and the writing of tokens.
+//! Lines and tokens of a text, and what the readers of line forms stand on: lexemes, a cursor over
+//! them, and the writing of tokens.
 #![tactic(auto)]
 
 pub mod cursor;

@@ -11,8 +11,9 @@ use std::alloc::{AllocError, Global};
 /// The most bytes that a text may have.
 pub const LONGEST_TEXT: usize = 1_048_576;
 
-/// A line of a text: its number, from 1, and the places of its first byte and behind its last. What ends the line, a line feed
-/// with a carriage return before it or without one, doesn't belong to it.
+/// A line of a text: its number, from 1, and the places of its first byte and behind its last. What
+/// ends the line, a line feed with a carriage return before it or without one, doesn't belong to
+/// it.
 #[derive(Clone, Copy, Debug, PartialEq, Eq)]
 pub struct Line {
     pub number: u32,

@@ -54,7 +54,8 @@ pub trait PartLine {
         ensures { GivesWhole result (line_at left.old) };
 }
 
-/// The form of a line, if it has tokens. The line is refused by rule 1 exactly where it is no form. The buffer is for its lexemes.
+/// The form of a line, if it has tokens. The line is refused by rule 1 exactly where it is no form.
+/// The buffer is for its lexemes.
 pub fn read_form<F: PartLine>(
     alloc: Global,
     buffer: &mut Vec<Lexeme>,
@@ -78,8 +79,8 @@ pub fn read_form<F: PartLine>(
     }
 }
 
-// Puts a line that may stand behind the lines so far behind them, and gives the block that is open then. The buffer is for its
-// lexemes.
+// Puts a line that may stand behind the lines so far behind them, and gives the block that is open
+// then. The buffer is for its lexemes.
 fn take_line<F: PartLine>(
     alloc: Global,
     buffer: &mut Vec<Lexeme>,
@@ -107,9 +108,10 @@ fn take_line<F: PartLine>(
     Ok(next)
 }
 
-/// The forms of a part, with the numbers of their lines, by the lines behind the part's header. It is refused at the first line at
-/// which rule 1 or 2 fails, by the lower of them: where a line is no form, where it may not stand behind the lines before it, and
-/// behind the last line where a block is open there.
+/// The forms of a part, with the numbers of their lines, by the lines behind the part's header. It
+/// is refused at the first line at which rule 1 or 2 fails, by the lower of them: where a line is
+/// no form, where it may not stand behind the lines before it, and behind the last line where a
+/// block is open there.
 pub fn read_lines<F: PartLine>(
     alloc: Global,
     bytes: &[u8],

@@ -103,15 +103,16 @@ impl<'a> Spelling<'a> {
         push(&mut self.pieces, Piece::Mark(mark))
     }
 
-    /// Puts the bytes of the tokens behind those of `out`. After `AllocError` some of them may stand there.
+    /// Puts the bytes of the tokens behind those of `out`. After `AllocError` some of them may
+    /// stand there.
     pub fn write(&self, alloc: Global, out: &mut Vec<u8>) -> Result<(), AllocError>
         ensures { OnOk result (out.new.items ≡ out.old.items ++ render self.now) }
     {
         put_tokens(alloc, out, &self.pieces)
     }
 
-    /// Puts a whole line behind the bytes of `out`: four blanks for each open block, the tokens and a line feed. After `AllocError`
-    /// some of it may stand there.
+    /// Puts a whole line behind the bytes of `out`: four blanks for each open block, the tokens and
+    /// a line feed. After `AllocError` some of it may stand there.
     #[tactic(auto, unfolding(crate::specs::Canonical::render_line))]
     pub fn write_line(&self, alloc: Global, depth: u32, out: &mut Vec<u8>) -> Result<(), AllocError>
         ensures { OnOk result (out.new.items ≡ out.old.items ++ render_line depth self.now) }

@@ -146,7 +146,8 @@ fn likely_width(behind: &[u8]) -> Option<Key>
     }
 }
 
-// The one reserved word that a run can be. One look at its front and its length leaves one comparison, where a table leaves 19.
+// The one reserved word that a run can be. One look at its front and its length leaves one
+// comparison, where a table leaves 19.
 fn likely_key(run: &[u8]) -> Option<Key>
     ensures { result ≡ likely_key run.now }
 {

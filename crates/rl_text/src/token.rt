@@ -33,7 +33,8 @@ pub struct Token {
     pub end: u32,
 }
 
-/// The tokens of a line, in order. It is refused by rule 1 exactly where the line breaks a sentence on lines and tokens.
+/// The tokens of a line, in order. It is refused by rule 1 exactly where the line breaks a sentence
+/// on lines and tokens.
 pub fn tokens(alloc: Global, bytes: &[u8], line: &Line) -> Result<Vec<Token>, LoadFault>
     requires { IsWithin bytes.now line.now }
     ensures { Answers (FailsTokens line.now.number (text_of bytes.now line.now))

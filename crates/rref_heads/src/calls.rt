@@ -1,4 +1,5 @@
-//! The calls of a table that threads share. Each looks at its head once, in one atomic step, and takes no memory.
+//! The calls of a table that threads share. Each looks at its head once, in one atomic step, and
+//! takes no memory.
 ghost use Rattle.std.specs.Prelude.{◌≡◌, ◌≢◌, ℕ, ◌-◌, ◌<◌, ◌≤◌, true, false, [], ◌∷◌, List as Items, Some, None, IfOk, IfErr, IfSome, MatchOption};
 ghost use Rattle.machine_defs.specs.declared.heads.HeadWord.TheVariants.{Vacant, Live};
 ghost use Rattle.machine_defs.specs.Heads.{how_many, title, loan, right, known};
@@ -22,7 +23,8 @@ const GONE: u64 = 2;
 const PUBLISHED: u64 = 3;
 
 impl Heads {
-    /// Claims a vacant head, and publishes the payload. The pass then has the head's title, which knows the payload.
+    /// Claims a vacant head, and publishes the payload. The pass then has the head's title, which
+    /// knows the payload.
     ///
     /// # Errors
     ///
@@ -72,7 +74,8 @@ impl Heads {
         Ok(())
     }
 
-    // The seat that has the right of release takes the payload out, and shows that the head is gone.
+    // The seat that has the right of release takes the payload out, and shows that the head is
+    // gone.
     fn take_out(&self, seat: &mut Seat<Option<Payload>, View>, word: usize) -> Option<Payload>
         requires own { (seat.old.table_id ≡ self.now.table.shared.table_id) × IsHead self.now word
             × (1 ≤ seat.old.me.0.passes) }
@@ -88,8 +91,9 @@ impl Heads {
         payload
     }
 
-    /// Gives a loan back, and takes the payload out where that frees the head: exactly where the word that was found had ended, and showed
-    /// this loan alone. Then the head is in the released list.
+    /// Gives a loan back, and takes the payload out where that frees the head: exactly where the
+    /// word that was found had ended, and showed this loan alone. Then the head is in the released
+    /// list.
     pub fn give_back(&self, pass: &mut Pass, h: u32) -> Option<Payload>
         requires own { IsPassOf self.now pass.old × IsHead self.now h }
         requires loan { 1 ≤ how_many loan h (view pass.old) }
@@ -124,8 +128,8 @@ impl Heads {
         words.fetch_add::<PassOn>(&mut pass.seat, h as usize, seat);
     }
 
-    /// Passes the head on to the pass of this number, which may take it up once no loan is left. The word that its look left names the
-    /// receiver. The title is gone.
+    /// Passes the head on to the pass of this number, which may take it up once no loan is left.
+    /// The word that its look left names the receiver. The title is gone.
     pub fn pass_on(&self, pass: &mut Pass, h: u32, to: u32)
         requires own { IsPassOf self.now pass.old × IsHead self.now h }
         requires title { 1 ≤ how_many title h (view pass.old) }
@@ -138,7 +142,8 @@ impl Heads {
         self.add_receiver(pass, h, to);
     }
 
-    /// Takes up a head that was passed on to this pass, where its word is `seen`. The pass then has the title, which knows no payload.
+    /// Takes up a head that was passed on to this pass, where its word is `seen`. The pass then has
+    /// the title, which knows no payload.
     ///
     /// # Errors
     ///
@@ -160,9 +165,10 @@ impl Heads {
         Ok(())
     }
 
-    /// Ends the head, and takes the payload out where that frees it: exactly where the word that was found showed no loan. Then the head is
-    /// in the released list, and the payload is the one that the title knew, where it knew one. Else it is freed by the caller that gives
-    /// the last loan back.
+    /// Ends the head, and takes the payload out where that frees it: exactly where the word that
+    /// was found showed no loan. Then the head is in the released list, and the payload is the one
+    /// that the title knew, where it knew one. Else it is freed by the caller that gives the last
+    /// loan back.
     pub fn end(&self, pass: &mut Pass, h: u32) -> Option<Payload>
         requires own { IsPassOf self.now pass.old × IsHead self.now h }
         requires title { 1 ≤ how_many title h (view pass.old) }

@@ -11,7 +11,8 @@ use machine_defs::heads::{HeadWord, View};
 use rl_defs::list::List;
 use std::alloc::{AllocError, Global};
 
-/// What closing a table tells of each head, in the order of their numbers: its word, and its payload where one is left.
+/// What closing a table tells of each head, in the order of their numbers: its word, and its
+/// payload where one is left.
 #[derive(Drop)]
 pub struct Closed {
     pub words: List<HeadWord>,
@@ -45,9 +46,10 @@ impl Heads {
         seat
     }
 
-    /// The words and the payloads that are left. The passes are all of this table, and none has a title or a loan any more. What their
-    /// claimed and released lists say of a head, its word shows: it is vacant exactly where no pass claimed it, and gone exactly where a
-    /// pass released it. A payload is there exactly where the word is live.
+    /// The words and the payloads that are left. The passes are all of this table, and none has a
+    /// title or a loan any more. What their claimed and released lists say of a head, its word
+    /// shows: it is vacant exactly where no pass claimed it, and gone exactly where a pass released
+    /// it. A payload is there exactly where the word is live.
     ///
     /// # Errors
     ///

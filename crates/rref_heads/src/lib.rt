@@ -1,8 +1,9 @@
 //! A table of heads that threads share without a lock.
 //!
-//! A head says of one object of a shared heap who owns it, who has borrowed it and who frees it. All of that is one word, which changes in
-//! single atomic steps, so no call waits for another. Beside the word there is a place for the object's payload, which only the caller
-//! may touch that just claimed the head, or that frees it. docs/HEADS.md shows the states of the word.
+//! A head says of one object of a shared heap who owns it, who has borrowed it and who frees it.
+//! All of that is one word, which changes in single atomic steps, so no call waits for another.
+//! Beside the word there is a place for the object's payload, which only the caller may touch that
+//! just claimed the head, or that frees it. docs/HEADS.md shows the states of the word.
 #![tactic(auto)]
 
 mod calls;

@@ -10,7 +10,8 @@ use machine_defs::heads::{Size, View};
 use std::alloc::{AllocError, Global};
 
 impl Heads {
-    /// A table of vacant heads, and its passes in order of their numbers, of which none knows anything yet.
+    /// A table of vacant heads, and its passes in order of their numbers, of which none knows
+    /// anything yet.
     ///
     /// # Errors
     ///

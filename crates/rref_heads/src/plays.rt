@@ -1,4 +1,5 @@
-//! The rule of the table, and what each step tells the seat that makes it. These types are for the proofs alone.
+//! The rule of the table, and what each step tells the seat that makes it. These types are for the
+//! proofs alone.
 ghost use Rattle.machine_defs.specs.HeadSteps.{one_fewer, one_pass, both as together};
 ghost use Rattle.rref_heads.specs.Plays.{Claims, Publishes, Lends, GivesBack, Releases, TakesUp, Ends, PassesOn};
 

@@ -16,8 +16,9 @@ pub struct Changed {
     pub word: HeadWord,
 }
 
-/// A table of heads, numbered from 1, each with a place for a payload. Threads share it by reference, and each steps with a pass of
-/// its own. Its type keeps that `HeadRule` holds between any two steps.
+/// A table of heads, numbered from 1, each with a place for a payload. Threads share it by
+/// reference, and each steps with a pass of its own. Its type keeps that `HeadRule` holds between
+/// any two steps.
 #[derive(Drop)]
 pub struct Heads {
     pub(crate) table: Table<Option<Payload>, View, Size, Rule, Global>,
@@ -28,7 +29,8 @@ pub struct Heads {
     ghost few: { (1 ≤ seats) × (seats ≤ 64) },
 }
 
-/// One caller's seat at a table. Between calls it has no claim and no right of release, and holds no payload.
+/// One caller's seat at a table. Between calls it has no claim and no right of release, and holds
+/// no payload.
 #[derive(Drop)]
 pub struct Pass {
     pub(crate) number: u32,

@@ -76,7 +76,8 @@ impl Firsts {
         }
     }
 
-    /// The root after an owner's first becomes its first, where `prev` is 0: the root that goes was the first.
+    /// The root after an owner's first becomes its first, where `prev` is 0: the root that goes was
+    /// the first.
     pub fn set_after(&mut self, owner: Owner, prev: u64, next: u64)
         requires { prev ≡ 0 → HasFirst self.old owner }
         ensures { self.new ≡ first_after self.old owner prev next }

@@ -158,7 +158,8 @@ impl Heap {
         self.store.firsts.open(owner)
     }
 
-    /// Makes room for one object of a struct. After `AllocError` no room is reserved, and all else is as before.
+    /// Makes room for one object of a struct. After `AllocError` no room is reserved, and all else
+    /// is as before.
     pub fn reserve_one(&mut self, alloc: Global, s: &StructRow) -> Result<(), AllocError>
         requires { length (heap_objects self.old.rows) < 2 ^ 32 }
         ensures ok { OnOk result (self.new ≡ record self.old { ready = Some (room_of s.now.flat) }) }
@@ -170,8 +171,8 @@ impl Heap {
         Ok(())
     }
 
-    /// Makes an object in the room that was reserved: a root of this owner, its numbers 0 and its cells for an `RRef` empty. The answer
-    /// is its number.
+    /// Makes an object in the room that was reserved: a root of this owner, its numbers 0 and its
+    /// cells for an `RRef` empty. The answer is its number.
     pub fn make(&mut self, ty: u32, owner: Owner) -> u64
         requires ready { IsSome self.old.ready }
         requires few { length (heap_objects self.old.rows) < 65536 }
@@ -196,13 +197,15 @@ impl Heap {
         self.store.drop_object(o);
     }
 
-    /// Gives an object to another owner, and with it what hangs in it. Where that owner has ended, they are listed for the sweep, and the
-    /// answer is true.
+    /// Gives an object to another owner, and with it what hangs in it. Where that owner has ended,
+    /// they are listed for the sweep, and the answer is true.
     pub fn pass(&mut self, o: u64, to: Owner, ended: bool) -> bool
         requires root { IsRoot self.old.rows o }
         requires unlent { loans_at self.old.rows o ≡ 0 }
         requires owner { MayOwn self.old to }
-        ensures passed { self.new ≡ record self.old { rows = leaving_if ended o (map (on_object o (owned_by to)) self.old.rows) } }
+        ensures passed { self.new ≡ record self.old {
+          rows = leaving_if ended o (map (on_object o (owned_by to)) self.old.rows);
+        } }
         ensures ended { result ≡ ended }
     {
         self.store.pass(o, to);
@@ -219,12 +222,14 @@ impl Heap {
         self.store.places.lend(o);
     }
 
-    /// Ends a loan of an object. Where it was the last, and the owner has ended, as `ended` tells, the object and what hangs in it are
-    /// listed for the sweep, and the answer is true.
+    /// Ends a loan of an object. Where it was the last, and the owner has ended, as `ended` tells,
+    /// the object and what hangs in it are listed for the sweep, and the answer is true.
     pub fn give_back(&mut self, o: u64, ended: bool) -> bool
         requires root { IsRoot self.old.rows o }
         requires lent { 0 < loans_at self.old.rows o }
-        ensures returned { self.new ≡ record self.old { rows = leaving_if result o (map (on_row o one_loan_less) self.old.rows) } }
+        ensures returned { self.new ≡ record self.old {
+          rows = leaving_if result o (map (on_row o one_loan_less) self.old.rows);
+        } }
         ensures free { result ≡ ended && (loans_at self.old.rows o == 1) }
     {
         let free = self.store.places.give_back(o, ended);
@@ -236,7 +241,9 @@ impl Heap {
     pub fn set(&mut self, o: u64, from: u32, values: &[u64])
         requires there { is_there self.old.rows o ≡ true }
         requires within { from + length values.now ≤ length (cells_at self.old.rows o) }
-        ensures { self.new ≡ record self.old { rows = map (on_object o (with_cells (overwritten from values.now))) self.old.rows } }
+        ensures { self.new ≡ record self.old {
+          rows = map (on_object o (with_cells (overwritten from values.now))) self.old.rows;
+        } }
     {
         self.store.places.write(o, from, values);
     }
@@ -245,7 +252,9 @@ impl Heap {
     pub fn fill(&mut self, o: u64, values: &[u64])
         requires there { is_there self.old.rows o ≡ true }
         requires whole { length values.now ≡ length (cells_at self.old.rows o) }
-        ensures { self.new ≡ record self.old { rows = map (on_object o (with_cells (instead values.now))) self.old.rows } }
+        ensures { self.new ≡ record self.old {
+          rows = map (on_object o (with_cells (instead values.now))) self.old.rows;
+        } }
     {
         self.store.places.fill(o, values);
     }
@@ -283,16 +292,18 @@ impl Heap {
         self.store.sweep(log);
     }
 
-    /// Ends what an instance owned. Its roots that aren't lent are taken out with what hangs in them, and logged by rising number; those
-    /// that are lent stay, with what hangs in them, until the last loan ends. A step is one place looked at: one for each root, and one
-    /// for each object that is taken out.
+    /// Ends what an instance owned. Its roots that aren't lent are taken out with what hangs in
+    /// them, and logged by rising number; those that are lent stay, with what hangs in them, until
+    /// the last loan ends. A step is one place looked at: one for each root, and one for each
+    /// object that is taken out.
     pub fn end_owner<L: Ledger>(&mut self, i: u32, log: &mut Log, steps: &mut Steps<L>)
         requires swept { leaving_in self.old.rows ≡ [] }
         requires room { length (left_by self.old.rows (owner.Instance i)) ≤ log.old.spare }
         ensures rows { self.new ≡ record self.old { rows = rows_without self.old.rows (owner.Instance i) } }
         ensures log { log.new.entries ≡ log.old.entries ++ map entry.Free (left_by self.old.rows (owner.Instance i)) }
         ensures spare { log.new.spare + length (left_by self.old.rows (owner.Instance i)) ≡ log.old.spare }
-        ensures steps { steps.new ≤ steps.old + (length (roots_of self.old.rows (owner.Instance i)) + length (left_by self.old.rows (owner.Instance i))) }
+        ensures steps { steps.new ≤ steps.old + (length (roots_of self.old.rows (owner.Instance i))
+            + length (left_by self.old.rows (owner.Instance i))) }
     {
         self.store.list_left(Owner::Instance(i), steps);
         self.store.sweep_counted(log, steps);
@@ -313,13 +324,15 @@ impl Heap {
         self.store.hang(o, cell, v);
     }
 
-    /// Takes what hangs in a cell of a root out of it. It is a root of the same owner then, and the answer.
+    /// Takes what hangs in a cell of a root out of it. It is a root of the same owner then, and the
+    /// answer.
     pub fn unhang(&mut self, o: u64, cell: u32) -> u64
         requires root { IsRoot self.old.rows o }
         requires stays { leaves_at self.old.rows o ≡ false }
         requires full { IsSome (hung_at self.old.rows o cell) }
         ensures object { hung_at self.old.rows o cell ≡ Some result }
-        ensures rows { (w : AnOwner) → root_owner self.old.rows o ≡ Some w → self.new ≡ record self.old { rows = map (on_object result (owned_by w)) self.old.rows } }
+        ensures rows { (w : AnOwner) → root_owner self.old.rows o ≡ Some w
+            → self.new ≡ record self.old { rows = map (on_object result (owned_by w)) self.old.rows } }
     {
         self.store.unhang(o, cell)
     }

@@ -1,7 +1,9 @@
-//! The shared heap: objects that domains pass and lend to one another (RedLeaf, OSDI 2020, section 3.1).
+//! The shared heap: objects that domains pass and lend to one another (RedLeaf, OSDI 2020, section
+//! 3.1).
 //!
-//! A [`Heap`] knows of each object its owner, its loans, its cells and what hangs in them. It keeps the roots of each owner together,
-//! so the end of an owner looks at what that owner had, and at nothing else. Only calls that end in `_one` or `_owner` and answer a
+//! A [`Heap`] knows of each object its owner, its loans, its cells and what hangs in them. It keeps
+//! the roots of each owner together, so the end of an owner looks at what that owner had, and at
+//! nothing else. Only calls that end in `_one` or `_owner` and answer a
 //! `Result` take memory.
 #![tactic(auto)]
 

@@ -12,8 +12,8 @@ pub struct Hanging {
 
 /// An object, with the numbers of its neighbors among its owner's roots, 0 for none.
 ///
-/// `owner` tells of a root alone. `below` is empty where nothing may hang here, and otherwise has a number for each cell: of the
-/// object that hangs in it, 0 for none.
+/// `owner` tells of a root alone. `below` is empty where nothing may hang here, and otherwise has a
+/// number for each cell: of the object that hangs in it, 0 for none.
 #[derive(Drop)]
 pub struct Place {
     pub number: u64,

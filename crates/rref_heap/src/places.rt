@@ -12,7 +12,8 @@ use std::alloc::{AllocError, Global};
 use std::marker::Model;
 use std::mem;
 
-/// The places of a heap. The object with number n stands at place n - 1, and what was taken out leaves its place empty.
+/// The places of a heap. The object with number n stands at place n - 1, and what was taken out
+/// leaves its place empty.
 #[derive(Drop)]
 pub struct Places {
     items: Vec<Option<Place>>,
@@ -29,7 +30,8 @@ impl Model for Places {
     ghost invariant = { λ p. Numbered (map spot_in p.items.items) };
 }
 
-// Ends a loan. The answer is whether nobody can reach the object any more, where it is told whether its owner has ended.
+// Ends a loan. The answer is whether nobody can reach the object any more, where it is told whether
+// its owner has ended.
 fn give_back_word(word: &mut BorrowWord, ended: bool) -> bool
     requires { 0 < word.old.count }
     ensures loans { word.new.count ≡ word.old.count - 1 }
@@ -142,7 +144,8 @@ impl Places {
         }
     }
 
-    /// How often an object is lent, and the number of its owner's next root; both 0 where it is gone.
+    /// How often an object is lent, and the number of its owner's next root; both 0 where it is
+    /// gone.
     pub fn look(&self, number: u64) -> (u32, u64)
         ensures loans { result.0 ≡ loans_in (at self.now.spots number) }
         ensures next { result.1 ≡ next_in (at self.now.spots number) }
@@ -174,7 +177,9 @@ impl Places {
     fn put(&mut self, place: Place)
         requires some { 0 < place.number }
         requires within { place.number ≤ length self.old.spots }
-        ensures { self.new ≡ record self.old { spots = slice_set self.old.spots (place.number - 1) (Some (spot_of place)) } }
+        ensures { self.new ≡ record self.old {
+          spots = slice_set self.old.spots (place.number - 1) (Some (spot_of place));
+        } }
     {
         let slot = slot_of(place.number);
         self.items[slot] = Some(place);
@@ -215,7 +220,9 @@ impl Places {
 
     /// The object hangs in a cell.
     pub fn set_hanging(&mut self, number: u64, hanging: Hanging)
-        ensures { self.new ≡ record self.old { spots = map (on_spot number (to_cell hanging.parent hanging.place)) self.old.spots } }
+        ensures { self.new ≡ record self.old {
+          spots = map (on_spot number (to_cell hanging.parent hanging.place)) self.old.spots;
+        } }
     {
         if let Some(mut place) = self.take(number) {
             place.hangs = Some(hanging);
@@ -257,7 +264,8 @@ impl Places {
         }
     }
 
-    /// One loan less. The answer is whether nobody can reach the object any more, where it is told whether its owner has ended.
+    /// One loan less. The answer is whether nobody can reach the object any more, where it is told
+    /// whether its owner has ended.
     pub fn give_back(&mut self, number: u64, ended: bool) -> bool
         requires { (p : ASpot) → at self.old.spots number ≡ Some p → 0 < p.loans }
         ensures loans { self.new ≡ record self.old { spots = map (on_spot number one_fewer) self.old.spots } }

@@ -73,7 +73,8 @@ impl Store {
         requires empty { below.items ≡ replicate (length below.items) 0 }
         requires wide { 0 < length below.items → length below.items ≡ length cells.items }
         ensures number { result ≡ length self.old.places.spots + 1 }
-        ensures made { Makes self.old self.new owner (new_spot (length self.old.places.spots + 1) ty owner cells.items below.items (first_in self.old.firsts owner)) }
+        ensures made { Makes self.old self.new owner (new_spot (length self.old.places.spots + 1) ty owner
+            cells.items below.items (first_in self.old.firsts owner)) }
     {
         let number = self.places.len() as u64 + 1;
         let next = self.firsts.get(owner);
@@ -119,7 +120,8 @@ impl Store {
     // The owner of a root, and the roots before and behind it.
     fn neighbors(&self, o: u64) -> (Owner, u64, u64)
         requires { is_some (links_in self.now.places.spots o) ≡ true }
-        ensures { links_in self.now.places.spots o ≡ Some (record { owner = result.0; next = result.2; prev = result.1 }) }
+        ensures { links_in self.now.places.spots o
+            ≡ Some (record { owner = result.0; next = result.2; prev = result.1 }) }
     {
         match self.places.get(o) {
             Some(place) => (place.owner, place.prev, place.next),
@@ -185,7 +187,8 @@ impl Store {
         }
     }
 
-    // Takes out the object that is listed last. The answer is its number, None exactly where none is listed.
+    // Takes out the object that is listed last. The answer is its number, None exactly where none
+    // is listed.
     fn take_last(&mut self) -> Option<u64>
         requires { IsStore self.old }
         ensures { TakesLast self.old self.new result }
@@ -273,7 +276,8 @@ impl Store {
         requires child_stays { leaves_at (rows_in self.old.places.spots) v ≡ false }
         requires within { cell < length (cells_at (rows_in self.old.places.spots) o) }
         requires empty { hung_at (rows_in self.old.places.spots) o cell ≡ None }
-        ensures { Becomes self.old self.new (map (on_object v (with_placement (Hung o cell))) (rows_in self.old.places.spots)) }
+        ensures { Becomes self.old self.new
+            (map (on_object v (with_placement (Hung o cell))) (rows_in self.old.places.spots)) }
     {
         let (owner, prev, next) = self.neighbors(v);
         self.unlink(owner, prev, next);
@@ -294,7 +298,8 @@ impl Store {
         requires stays { leaves_at (rows_in self.old.places.spots) o ≡ false }
         requires full { IsSome (hung_at (rows_in self.old.places.spots) o cell) }
         ensures object { hung_at (rows_in self.old.places.spots) o cell ≡ Some result }
-        ensures becomes { (w : AnOwner) → root_owner (rows_in self.old.places.spots) o ≡ Some w → Becomes self.old self.new (map (on_object result (owned_by w)) (rows_in self.old.places.spots)) }
+        ensures becomes { (w : AnOwner) → root_owner (rows_in self.old.places.spots) o ≡ Some w
+            → Becomes self.old self.new (map (on_object result (owned_by w)) (rows_in self.old.places.spots)) }
     {
         let v = self.places.below(o, cell as usize);
         self.places.set_below(o, cell, 0);

@@ -61,7 +61,8 @@ fn word(alloc: Global) -> Result<StructRow, AllocError>
 
 // A heap with object 1, a pair, and object 2, a word.
 fn two_objects(alloc: Global, who: Owner) -> Result<Heap, AllocError>
-    ensures { IfOk result (λ h. h.rows ≡ Some (new_row 1 7 who (record { cells = 2; nests = true })) ∷ Some (new_row 2 8 who (record { cells = 1; nests = false })) ∷ []) }
+    ensures { IfOk result (λ h. h.rows ≡ Some (new_row 1 7 who (record { cells = 2; nests = true }))
+        ∷ Some (new_row 2 8 who (record { cells = 1; nests = false })) ∷ []) }
 {
     let mut heap = one_pair(alloc, who)?;
     let s = word(alloc)?;

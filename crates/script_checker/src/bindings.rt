@@ -11,7 +11,8 @@ use rl_defs::tables::Kind;
 use std::alloc::{AllocError, Global};
 use std::marker::Model;
 
-/// The names that some lines of a script bind, what each is bound to, and those whose objects were moved or dropped.
+/// The names that some lines of a script bind, what each is bound to, and those whose objects were
+/// moved or dropped.
 #[derive(Drop)]
 pub struct Bindings {
     names: Names,
@@ -67,7 +68,8 @@ impl Bindings {
         }
     }
 
-    /// The number of a name, from 0 in the order in which the script binds them. It is 0 where the name isn't bound.
+    /// The number of a name, from 0 in the order in which the script binds them. It is 0 where the
+    /// name isn't bound.
     pub fn number(&self, name: &Name) -> u32
         ensures { result ≡ name_number self.now.names name.now }
     {

@@ -17,8 +17,9 @@ use rl_defs::load::ClientRow;
 use rl_defs::tables::Tables;
 use std::alloc::Global;
 
-/// The rows of the clients, or the first line of their scripts that rule 50 or 51 refuses, with the lower one that it breaks there. Of the
-/// bundle, the interfaces stand in the tables, the domains keep their rules, and the plan breaks none.
+/// The rows of the clients, or the first line of their scripts that rule 50 or 51 refuses, with the
+/// lower one that it breaks there. Of the bundle, the interfaces stand in the tables, the domains
+/// keep their rules, and the plan breaks none.
 pub fn check_scripts(
     alloc: Global,
     tables: &Tables,

@@ -66,8 +66,8 @@ fn method_number_of(scope: &Scope, target: &Name, method: &Name) -> u32
         .unwrap_or(0)
 }
 
-/// The command that a line stands for, where the names of the line and of those before it are bound. A line that isn't a command stands for
-/// none.
+/// The command that a line stands for, where the names of the line and of those before it are
+/// bound. A line that isn't a command stands for none.
 pub fn command_of(
     alloc: Global,
     scope: &Scope,

@@ -62,7 +62,8 @@ fn bits(width: Width) -> u32
     }
 }
 
-// Whether a name that is bound to this suits a parameter: a number that is no wider, or an object of the struct.
+// Whether a name that is bound to this suits a parameter: a number that is no wider, or an object
+// of the struct.
 fn name_suits(param: Kind, bound: Option<Kind>) -> bool
     ensures { result ≡ name_suits param bound }
 {

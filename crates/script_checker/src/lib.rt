@@ -1,5 +1,6 @@
-//! The scripts of the clients: each command is given what it asks for, and no object is used that is gone. What the commands stand for, by
-//! the numbers of structs, targets, methods and script names.
+//! The scripts of the clients: each command is given what it asks for, and no object is used that
+//! is gone. What the commands stand for, by the numbers of structs, targets, methods and script
+//! names.
 #![tactic(auto)]
 
 mod bindings;

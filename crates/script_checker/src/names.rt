@@ -11,7 +11,8 @@ use rl_defs::name::Name;
 use rl_defs::tables::{Kind, MethodRow, StructRow, TraitRow, Width};
 use std::alloc::{AllocError, Global};
 
-/// Adds a name, and gives the place where it stood before. It answers `AllocError` too where the names are as many as can be numbered.
+/// Adds a name, and gives the place where it stood before. It answers `AllocError` too where the
+/// names are as many as can be numbered.
 pub fn add(names: &mut Names, name: &Name) -> Result<Option<u32>, AllocError>
     ensures added { OnOk result (names.new ≡ names.old ++ name.now ∷ []) }
     ensures before { IfOk result (λ place. place ≡ place_of name.now names.old) }

@@ -20,7 +20,8 @@ use rl_defs::tables::{Kind, MethodRow, Tables};
 use std::alloc::{AllocError, Global};
 use std::marker::Model;
 
-/// A bundle and its tables, with look-ups of its structs, methods and targets. Contracts see the tables and the bundle.
+/// A bundle and its tables, with look-ups of its structs, methods and targets. Contracts see the
+/// tables and the bundle.
 #[derive(Drop)]
 pub struct Scope<'a> {
     tables: &'a Tables,
@@ -59,7 +60,8 @@ fn method_at(tables: &Tables, of: u32, number: u32) -> Option<&MethodRow>
 }
 
 impl<'a> Scope<'a> {
-    /// These tables and these parts of a bundle. It answers `AllocError` too where the targets are more than can be numbered.
+    /// These tables and these parts of a bundle. It answers `AllocError` too where the targets are
+    /// more than can be numbered.
     pub fn new(
         alloc: Global,
         tables: &'a Tables,
@@ -135,7 +137,8 @@ impl<'a> Scope<'a> {
         }
     }
 
-    /// The number of a target, from 1: first the loads, then the shadows. It is 0 where there is no such target.
+    /// The number of a target, from 1: first the loads, then the shadows. It is 0 where there is no
+    /// such target.
     pub fn target_number(&self, name: &Name) -> u32
         ensures { result ≡ target_number self.now.bundle name.now }
     {

@@ -138,7 +138,8 @@ fn put_command(
     Ok(())
 }
 
-/// The commands of a script, or the first line that rule 50 or 51 refuses, with the lower one that it breaks.
+/// The commands of a script, or the first line that rule 50 or 51 refuses, with the lower one that
+/// it breaks.
 pub fn check_script(
     alloc: Global,
     scope: &Scope,

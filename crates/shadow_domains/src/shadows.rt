@@ -12,7 +12,8 @@ use rl_defs::load::Load;
 use std::alloc::{AllocError, Global};
 use std::marker::Model;
 
-/// A shadow: the instance that it stands for now, and the restarts that are left. Contracts see the shadow of the machine's state.
+/// A shadow: the instance that it stands for now, and the restarts that are left. Contracts see the
+/// shadow of the machine's state.
 #[derive(Debug, Drop)]
 pub struct Shadow {
     current: u32,
@@ -86,8 +87,9 @@ impl Shadows {
         (self.current(load, target), self.left(load, target) > 0)
     }
 
-    /// Opens a fresh instance of the load of a shadow, which has a restart left, and answers its number. The shadow stands for it from now
-    /// on, and has one restart less. Nothing else changes, and after `AllocError` nothing has.
+    /// Opens a fresh instance of the load of a shadow, which has a restart left, and answers its
+    /// number. The shadow stands for it from now on, and has one restart less. Nothing else
+    /// changes, and after `AllocError` nothing has.
     pub fn reload(
         &mut self,
         instances: &mut Instances,
@@ -101,7 +103,8 @@ impl Shadows {
         ensures number { IfOk result (λ i. i ≡ length instances.old + 1) }
         ensures stands { IfOk result (λ i. (left : ℕ)
             → option_map_or (λ s. s.left) (row self.old (target - length load.now.loads)) 0 ≡ left + 1
-            → self.new ≡ slice_set self.old (target - length load.now.loads - 1) (record { current = i; left = left })) }
+            → self.new ≡ slice_set self.old (target - length load.now.loads - 1)
+            (record { current = i; left = left })) }
         ensures opened { OnOk result (instances.new ≡ instances.old
             ++ option_map_or (λ l. first_instance load.now (load_of_target load.now target) l ∷ [])
             (load_row load.now (load_of_target load.now target)) []) }
@@ -117,7 +120,8 @@ impl Shadows {
         Ok(number)
     }
 
-    /// Whether a call of this method of the target may be issued again: where it goes through a shadow, and the method is idempotent.
+    /// Whether a call of this method of the target may be issued again: where it goes through a
+    /// shadow, and the method is idempotent.
     pub fn may_reissue(&self, load: &Load, target: u32, method: u32) -> bool
         ensures { result ≡ (is_shadow load.now target && is_idempotent load.now target method) }
     {

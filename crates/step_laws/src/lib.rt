@@ -1,5 +1,6 @@
-//! Laws of the steps of the domain machine: functions with nothing to do, whose contracts say what one step of a run counts, lends and
-//! frees, by the kind of its entry. What they say is stated in `specs/StepLaws.antt`.
+//! Laws of the steps of the domain machine: functions with nothing to do, whose contracts say what
+//! one step of a run counts, lends and frees, by the kind of its entry. What they say is stated in
+//! `specs/StepLaws.antt`.
 #![tactic(auto)]
 
 ghost use Rattle.step_laws.specs.StepLaws.{QuietStepsFreeNothing, KillsAgainFreeNothing, StepsCountUp, RunsCountUp, ObjectsStayFew};
@@ -16,7 +17,8 @@ pub fn kills_again_free_nothing()
     ensures { KillsAgainFreeNothing }
 {}
 
-/// A step uses one number at most of calls, of objects and of instances. The threads, stacks, shadows and blocks stay as many as they are.
+/// A step uses one number at most of calls, of objects and of instances. The threads, stacks,
+/// shadows and blocks stay as many as they are.
 pub fn steps_count_up()
     ensures { StepsCountUp }
 {}
@@ -31,7 +33,8 @@ pub fn objects_stay_few()
     ensures { ObjectsStayFew }
 {}
 
-/// A call adds the loans of its arguments, the end of a frame takes those of that frame, and other steps leave loans as they are.
+/// A call adds the loans of its arguments, the end of a frame takes those of that frame, and other
+/// steps leave loans as they are.
 pub fn loans_of_steps()
     ensures { LoansOfSteps }
 {}
@@ -42,8 +45,8 @@ pub fn loans_stay_few()
     ensures rows { RowsLendFew }
 {}
 
-/// What an entry moves, returns, drops, puts away, hangs or writes is a root of who acts, and nobody has borrowed it. What it lends or
-/// shows is somebody's root.
+/// What an entry moves, returns, drops, puts away, hangs or writes is a root of who acts, and
+/// nobody has borrowed it. What it lends or shows is somebody's root.
 pub fn entries_name_roots()
     ensures { EntriesNameRoots }
 {}
@@ -58,18 +61,21 @@ pub fn doomed_are_freed()
     ensures { DoomedAreFreed }
 {}
 
-/// An end of an instance frees its roots that nobody has borrowed, with what hangs in them, and nothing else.
+/// An end of an instance frees its roots that nobody has borrowed, with what hangs in them, and
+/// nothing else.
 pub fn ends_free()
     ensures { EndsFree }
 {}
 
-/// A drop, and a refusal with the objects that its call would have moved, frees what hangs in what it drops, and nothing else.
+/// A drop, and a refusal with the objects that its call would have moved, frees what hangs in what
+/// it drops, and nothing else.
 pub fn drops_free()
     ensures { DropsFree }
 {}
 
-/// The end of a frame frees roots of ended owners that nobody has borrowed any more, with what hangs in them: of the roots that were lent to
-/// the frame or are results of its call, and no others.
+/// The end of a frame frees roots of ended owners that nobody has borrowed any more, with what
+/// hangs in them: of the roots that were lent to the frame or are results of its call, and no
+/// others.
 pub fn returns_free()
     ensures { ReturnsFree }
 {}

@@ -1,5 +1,6 @@
-//! Laws of printed histories: functions with nothing to do, whose contracts are facts about the entries of every valid load, of every
-//! run and of every accepted bundle. What they say is stated in `machine_defs`, `specs/EntryTexts.antt`.
+//! Laws of printed histories: functions with nothing to do, whose contracts are facts about the
+//! entries of every valid load, of every run and of every accepted bundle. What they say is stated
+//! in `machine_defs`, `specs/EntryTexts.antt`.
 #![tactic(auto)]
 
 ghost use Rattle.std.specs.Prelude.{ℕ, ◌≤◌, List, length};
@@ -27,8 +28,9 @@ pub fn accepted_loads_have_words()
     ensures { (bytes : List ℕ) (L : LoadRows) → Accepted bytes L → HasWords L }
 {}
 
-/// So the printed history of a run of an accepted bundle, of at most 1,048,576 bytes, tells each of its entries: a run with another
-/// history prints another text. Numbers of entries have at most 64 bits.
+/// So the printed history of a run of an accepted bundle, of at most 1,048,576 bytes, tells each of
+/// its entries: a run with another history prints another text. Numbers of entries have at most 64
+/// bits.
 pub fn printed_histories_tell_runs()
     ensures { (bytes : List ℕ) (L : LoadRows) → length bytes ≤ 1048576 → Accepted bytes L → RunsAreTold L }
 {}

@@ -1,5 +1,6 @@
-//! Reads a bundle and what a run of it printed, and prints the history and the replies once more, from the entries that its lines are. A
-//! line that is no entry is printed first, behind `no entry: `.
+//! Reads a bundle and what a run of it printed, and prints the history and the replies once more,
+//! from the entries that its lines are. A line that is no entry is printed first, behind `no entry:
+//! `.
 #![tactic(auto)]
 
 ghost use Rattle.std.specs.Prelude.{◌<◌, ◌≤◌, length};
@@ -111,7 +112,8 @@ fn read_lines(
     Ok(())
 }
 
-/// Puts the entry that a line is into the log, and a line that is none into the text, behind `no entry: `.
+/// Puts the entry that a line is into the log, and a line that is none into the text, behind `no
+/// entry: `.
 fn read_line(
     alloc: Global,
     spellings: &Spellings,

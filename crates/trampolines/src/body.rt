@@ -12,8 +12,8 @@ struct Kept<S: Drop> {
     action: Action,
 }
 
-/// A native body in its box, so that a frame of it is small. Contracts see the action that it wants next, and a frame of it as a frame of
-/// the machine's state.
+/// A native body in its box, so that a frame of it is small. Contracts see the action that it wants
+/// next, and a frame of it as a frame of the machine's state.
 #[derive(Debug, Drop)]
 pub struct Body<S: Drop> {
     kept: Box<Kept<S>>,

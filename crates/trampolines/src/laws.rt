@@ -10,7 +10,8 @@ ghost use Rattle.trampolines.specs.Words as words;
 use crate::body::Body;
 use crate::stacks::Stacks;
 
-/// Of frames of the machine's state, the newest, those below it and those in an instance are the same in both words.
+/// Of frames of the machine's state, the newest, those below it and those in an instance are the
+/// same in both words.
 pub fn words_agree()
     ensures top { (fs : List StackFrame) → words.top fs ≡ state.top fs }
     ensures below_top { (fs : List StackFrame) → words.below_top fs ≡ frames.below_top fs }

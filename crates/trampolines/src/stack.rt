@@ -11,8 +11,8 @@ use std::marker::Model;
 /// The most frames above the client's own that a stack may have.
 pub const MOST_FRAMES: usize = 31;
 
-/// The frames of a client above its own, the lowest first. There is room for all that a stack may have, so that a call takes no memory
-/// for its frame.
+/// The frames of a client above its own, the lowest first. There is room for all that a stack may
+/// have, so that a call takes no memory for its frame.
 #[derive(Debug, Drop)]
 pub struct Stack<N: Drop> {
     frames: Vec<Frame<N>>,
@@ -76,7 +76,8 @@ impl<N: Drop> Stack<N> {
         }
     }
 
-    /// The top frame, which is one of domain code, stands at this line with these registers. Nothing else changes.
+    /// The top frame, which is one of domain code, stands at this line with these registers.
+    /// Nothing else changes.
     pub fn set_code(&mut self, line: u32, registers: &Registers)
         requires { stands_in_code (top self.old) ≡ true }
         ensures { self.new ≡ top_standing_at line registers.now self.old (top self.old) }

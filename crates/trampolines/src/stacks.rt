@@ -11,8 +11,9 @@ use machine_defs::frame::Frame;
 use std::alloc::{AllocError, Global};
 use std::marker::Model;
 
-/// A stack for each client, by its number from 1, and a count of frames for each instance. Contracts see for each client the frames above
-/// its own, and of how many instances frames are counted.
+/// A stack for each client, by its number from 1, and a count of frames for each instance.
+/// Contracts see for each client the frames above its own, and of how many instances frames are
+/// counted.
 #[derive(Debug, Drop)]
 pub struct Stacks<N: Drop> {
     stacks: Vec<Stack<N>>,
@@ -32,7 +33,8 @@ impl<N: Drop> Model for Stacks<N> {
 }
 
 impl<N: Drop> Stacks<N> {
-    /// An empty stack for each client, with room for all frames that it may have. Frames are counted of so many instances.
+    /// An empty stack for each client, with room for all frames that it may have. Frames are
+    /// counted of so many instances.
     pub fn new(alloc: Global, clients: u32, instances: u32) -> Result<Stacks<N>, AllocError>
         ensures { IfOk result (λ s. s ≡ record { frames = replicate clients []; instances = instances }) }
     {
@@ -99,7 +101,8 @@ impl<N: Drop> Stacks<N> {
         self.stacks[t as usize - 1].as_slice().len() as u32 + 1
     }
 
-    /// The frame at a place of a client's stack, from 0 above the client's own. None exactly where there is none.
+    /// The frame at a place of a client's stack, from 0 above the client's own. None exactly where
+    /// there is none.
     pub fn frame_at(&self, t: u32, place: u32) -> Option<&Frame<N>>
         requires { (0 < t) × (t ≤ length self.now.frames) }
         ensures { option_copied result ≡ slice_get (stack_of self.now.frames t) place }
@@ -107,7 +110,8 @@ impl<N: Drop> Stacks<N> {
         self.stacks[t as usize - 1].as_slice().get(place as usize)
     }
 
-    /// The top frame of a client, which is one of domain code, stands at this line with these registers. Nothing else changes.
+    /// The top frame of a client, which is one of domain code, stands at this line with these
+    /// registers. Nothing else changes.
     pub fn set_code(&mut self, t: u32, line: u32, registers: &Registers)
         requires a_client { (0 < t) × (t ≤ length self.old.frames) }
         requires code { stands_in_code (top (stack_of self.old.frames t)) ≡ true }
@@ -118,7 +122,8 @@ impl<N: Drop> Stacks<N> {
         self.stacks[t as usize - 1].set_code(line, registers);
     }
 
-    /// The least client other than `but` that has a frame in instance `i`. None exactly where there is none.
+    /// The least client other than `but` that has a frame in instance `i`. None exactly where there
+    /// is none.
     pub fn holder(&self, i: u32, but: u32) -> Option<u32>
         ensures some { is_some result ≡ others_in i but 1 self.now.frames }
         ensures least { (t : ℕ) → result ≡ Some t

@@ -3,8 +3,9 @@ ghost use Rattle.std.specs.Prelude.{◌≡◌, ℕ, ◌<◌, ◌≤◌, length, 
 ghost use Rattle.std.specs.List.{slice_index_or};
 ghost use Rattle.turn_order.specs.Rounds.{is_on, next_place};
 
-/// The first place of the list from `from` on, going round, whose client is enabled. None exactly where there is none. Clients are
-/// numbered from 1, and `enabled` tells of each client by its number.
+/// The first place of the list from `from` on, going round, whose client is enabled. None exactly
+/// where there is none. Clients are numbered from 1, and `enabled` tells of each client by its
+/// number.
 pub fn next(order: &[u32], from: usize, enabled: &[bool]) -> Option<usize>
     requires clients { All (λ t. (1 ≤ t) × (t ≤ length enabled.now)) order.now }
     requires within { from ≤ length order.now }

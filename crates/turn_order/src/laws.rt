@@ -5,8 +5,8 @@ ghost use Rattle.machine_defs.specs.State.{State};
 ghost use Rattle.machine_defs.specs.Runs.{order_of, next_turn};
 ghost use Rattle.turn_order.specs.Rounds.{round_from, ComesNext, NobodyEnabled};
 
-/// Where from a place on some clients aren't enabled and the one behind them is, it takes the next turn, and the place after its own comes
-/// then. Where no client is enabled, there is no next turn.
+/// Where from a place on some clients aren't enabled and the one behind them is, it takes the next
+/// turn, and the place after its own comes then. Where no client is enabled, there is no next turn.
 pub fn first_enabled_comes_next()
     ensures some { (L : LoadRows) (s : State) (place step : ℕ) → ComesNext L s place step → next_turn L s place
         ≡ Some (slice_index (round_from (order_of L) place) step, (place + step + 1) % length (order_of L)) }

@@ -12,10 +12,11 @@ use machine_defs::log::Log;
 use rref_heap::{Heap, Steps};
 use std::sync::ledger::Ledger;
 
-/// Instance `i` ends, by the trap or the kill that `entry` is. The entry is logged, and then what the instance owned is freed by rising
-/// number: its roots that aren't lent, with what hangs in them. Those that are lent stay, with what hangs in them, until the last loan ends.
-/// A step is one place of the heap looked at: at most one for each root of the instance, and one for each object that is freed. It takes no
-/// memory.
+/// Instance `i` ends, by the trap or the kill that `entry` is. The entry is logged, and then what
+/// the instance owned is freed by rising number: its roots that aren't lent, with what hangs in
+/// them. Those that are lent stay, with what hangs in them, until the last loan ends. A step is one
+/// place of the heap looked at: at most one for each root of the instance, and one for each object
+/// that is freed. It takes no memory.
 pub fn end_instance<L: Ledger>(
     heap: &mut Heap,
     instances: &mut Instances,

@@ -19,7 +19,8 @@ ghost use Rattle.worked_runs.specs.TrapAgain.{IsTrapAgain};
 ghost use Rattle.worked_runs.specs.FullStack.{IsFullStack};
 ghost use Rattle.worked_runs.specs.Wrong.{IsIssuedOnce, IsInnermostFirst, IsReloadCounted, IsKeptWhileLent, IsFreedWithTheLast};
 
-/// A client's object is moved into a domain, from there into another one, and comes back by two returns. The client drops it.
+/// A client's object is moved into a domain, from there into another one, and comes back by two
+/// returns. The client drops it.
 pub fn moved_twice()
     ensures { IsMovedTwice }
 {}
@@ -29,12 +30,14 @@ pub fn moved_load_is_valid()
     ensures { Valid moved_load }
 {}
 
-/// An object's owner is killed while the object is lent, and lent on. It is freed when the last loan ends, and not before.
+/// An object's owner is killed while the object is lent, and lent on. It is freed when the last
+/// loan ends, and not before.
 pub fn lent_while_killed()
     ensures { IsLentWhileKilled }
 {}
 
-/// An object that hangs in another one goes where that one goes, is listed in its cell, and is freed behind its drop.
+/// An object that hangs in another one goes where that one goes, is listed in its cell, and is
+/// freed behind its drop.
 pub fn hung_and_dropped()
     ensures { IsHungAndDropped }
 {}
@@ -44,17 +47,20 @@ pub fn trap_over_hung()
     ensures { IsTrapOverHung }
 {}
 
-/// Two clients are in a driver that a third one kills twice: behind the driver's shadow their calls are issued again, and then unwound.
+/// Two clients are in a driver that a third one kills twice: behind the driver's shadow their calls
+/// are issued again, and then unwound.
 pub fn killed_twice()
     ensures { IsKilledTwice }
 {}
 
-/// A driver is killed while it reads a block: its object is freed, and behind its shadow the read is issued again.
+/// A driver is killed while it reads a block: its object is freed, and behind its shadow the read
+/// is issued again.
 pub fn killed_in_a_read()
     ensures { IsKilledInARead }
 {}
 
-/// A call returns an object to a caller that has ended: the object is freed, and the caller's own call is unwound.
+/// A call returns an object to a caller that has ended: the object is freed, and the caller's own
+/// call is unwound.
 pub fn ended_caller()
     ensures { IsEndedCaller }
 {}
@@ -64,37 +70,44 @@ pub fn opposite_orders()
     ensures { IsOppositeOrders }
 {}
 
-/// A domain puts an object into its slot, and traps where it would put another one into the full slot. Both are freed.
+/// A domain puts an object into its slot, and traps where it would put another one into the full
+/// slot. Both are freed.
 pub fn put_twice()
     ensures { IsPutTwice }
 {}
 
-/// A client's call of a domain that it killed is refused, the object that it moves is dropped, and what uses its result is skipped.
+/// A client's call of a domain that it killed is refused, the object that it moves is dropped, and
+/// what uses its result is skipped.
 pub fn gone_and_skipped()
     ensures { IsGoneAndSkipped }
 {}
 
-/// A call's fuel is used up before its last instruction: its instance traps, and the call is unwound.
+/// A call's fuel is used up before its last instruction: its instance traps, and the call is
+/// unwound.
 pub fn out_of_fuel()
     ensures { IsOutOfFuel }
 {}
 
-/// A domain keeps a number in a word, in a slot and on its device. A later call empties the slot, and returns what the device has.
+/// A domain keeps a number in a word, in a slot and on its device. A later call empties the slot,
+/// and returns what the device has.
 pub fn kept_in_store()
     ensures { IsKeptInStore }
 {}
 
-/// A native body writes a block through its import and reads it back; when the driver is killed its call is refused, and it traps.
+/// A native body writes a block through its import and reads it back; when the driver is killed its
+/// call is refused, and it traps.
 pub fn native_over_driver()
     ensures { IsNativeOverDriver }
 {}
 
-/// A driver traps at a block that isn't there: behind its shadow the read is issued again, traps again, and is unwound.
+/// A driver traps at a block that isn't there: behind its shadow the read is issued again, traps
+/// again, and is unwound.
 pub fn trap_again()
     ensures { IsTrapAgain }
 {}
 
-/// A domain calls itself until its client's stack is full: the 32nd call is refused, and all the others return.
+/// A domain calls itself until its client's stack is full: the 32nd call is refused, and all the
+/// others return.
 pub fn full_stack()
     ensures { IsFullStack }
 {}
@@ -119,7 +132,8 @@ pub fn kept_while_lent()
     ensures { IsKeptWhileLent }
 {}
 
-/// A history that no run has: the last loan of an object ends whose owner has ended, and the object isn't freed before a client goes on.
+/// A history that no run has: the last loan of an object ends whose owner has ended, and the object
+/// isn't freed before a client goes on.
 pub fn freed_with_the_last()
     ensures { IsFreedWithTheLast }
 {}

@@ -69,9 +69,10 @@ impl PartLine for ClientPart {
     }
 }
 
-/// The lines of the clients, with their numbers, by the lines behind the part's header. They are refused at the first line at which
-/// rule 1 or 2 fails, by the lower of them: where a line is no form, where it may not stand behind the lines before it, and behind
-/// the last line where a client is open there.
+/// The lines of the clients, with their numbers, by the lines behind the part's header. They are
+/// refused at the first line at which rule 1 or 2 fails, by the lower of them: where a line is no
+/// form, where it may not stand behind the lines before it, and behind the last line where a client
+/// is open there.
 pub fn read_clients(alloc: Global, bytes: &[u8], lines: &[Line]) -> Result<Clients, LoadFault>
     requires numbered { AreNumbered bytes.now (first_number lines.now) lines.now }
     requires room { first_number lines.now + length lines.now < 2 ^ 32 }

@@ -190,7 +190,8 @@ impl Written for ClientLine {
     }
 }
 
-/// The canonical text of clients: each line with four blanks where a client is open round it, and a line feed.
+/// The canonical text of clients: each line with four blanks where a client is open round it, and a
+/// line feed.
 pub fn write_clients(alloc: Global, clients: &Clients) -> Result<Vec<u8>, AllocError>
     ensures canonical { IfOk result (λ v. v.items ≡ write_clients clients.now.lines) }
     ensures again { IfOk result (λ v. IsReadAgain clients.now.lines v.items) }

@@ -57,8 +57,8 @@ impl PartLine for PlanPart {
     }
 }
 
-/// The lines of a plan, with their numbers, by the lines behind the part's header. It is refused at the first line that is no form,
-/// by rule 1.
+/// The lines of a plan, with their numbers, by the lines behind the part's header. It is refused at
+/// the first line that is no form, by rule 1.
 pub fn read_plan(alloc: Global, bytes: &[u8], lines: &[Line]) -> Result<Plan, LoadFault>
     requires numbered { AreNumbered bytes.now (first_number lines.now) lines.now }
     requires room { first_number lines.now + length lines.now < 2 ^ 32 }
