@@ -65,6 +65,7 @@ driver_forms =
     ∷ line.Close
     ∷ []
 
--- a load runs the driver: the lines of its domain are the driver's, whatever their numbers in the bundle are
+-- a load runs the driver: the lines of its domain are the driver's, whatever their numbers in the
+-- bundle are
 abbrev pub RunsDriver : LoadRows → ℕ → Type 0
 RunsDriver L k = forms_of (domain_of_load L k).lines ≡ driver_forms

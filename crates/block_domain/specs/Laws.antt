@@ -30,8 +30,8 @@ pub record IsRead (L : LoadRows) (call : OpenCall) : Type 0 where
   pub driver : RunsDriver L (load_of_target L call.target)
   pub method : method_name L call.target call.method ≡ codes "read"
 
--- Among these turns thread t put block b into object o, by a `devget`, and its open calls were the same then: so it is of the call that is
--- its newest now, in the instance in which that still is.
+-- Among these turns thread t put block b into object o, by a `devget`, and its open calls were the
+-- same then: so it is of the call that is its newest now, in the instance in which that still is.
 pub record Got (L : LoadRows) (us : List Turn) (t o b : ℕ) : Type 0 where
   pub later : List Turn
   pub frees : List ℕ
@@ -39,8 +39,8 @@ pub record Got (L : LoadRows) (us : List Turn) (t o b : ℕ) : Type 0 where
   pub turns : us ≡ later ++ record { entry = entry.DevGet t o b; frees = frees } ∷ earlier
   pub same_call : open_calls earlier t ≡ open_calls us t
 
--- A `read` returns one object. By a `devget` of its own it got the block of the call's first argument, and it has the cells that this block
--- held before that.
+-- A `read` returns one object. By a `devget` of its own it got the block of the call's first
+-- argument, and it has the cells that this block held before that.
 pub record GivesBlock (L : LoadRows) (us : List Turn) (t : ℕ) (call : OpenCall) (results : List Value) : Type 0 where
   pub block : ℕ
   pub object : ℕ
@@ -54,6 +54,7 @@ abbrev pub GivesWhatWasWritten : LoadRows → List Turn → Entry → Type 0
 GivesWhatWasWritten L us (entry.Ret t c results) = (call : OpenCall) (others : List OpenCall) → open_calls us t ≡ call ∷ others → IsRead L call → GivesBlock L us t call results
 GivesWhatWasWritten L us _ = Unit {0}
 
--- Each `read` of the driver that returned gave what the last `devput` to its block before its `devget` had written, or zeros.
+-- Each `read` of the driver that returned gave what the last `devput` to its block before its
+-- `devget` had written, or zeros.
 abbrev pub ReadsGiveWhatWasWritten : Type 0
 ReadsGiveWhatWasWritten = (L : LoadRows) (H : List Entry) (s : State) → Valid L → Run L H s → Always (λ us u. GivesWhatWasWritten L us u.entry) (turns_of H)

@@ -1,4 +1,5 @@
--- What a history tells of the cells of objects and of the blocks of the device. Each reading is of the turns before a place, the newest first.
+-- What a history tells of the cells of objects and of the blocks of the device. Each reading is of
+-- the turns before a place, the newest first.
 use Rattle.std.specs.Prelude.{ℕ, ◌-◌, ◌==◌, ◌++◌, List, [], length, replicate, if◌then◌else◌}
 use Rattle.machine_defs.specs.declared.entry.Entry.{Entry}
 use Rattle.machine_defs.specs.declared.entry.Entry.TheVariants as entry
@@ -21,8 +22,9 @@ empty_store = record { objects = λ o. []; blocks = λ b. replicate 64 0 }
 abbrev pub changed : ℕ → List ℕ → (ℕ → List ℕ) → ℕ → List ℕ
 changed n cells old m = if m == n then cells else old m
 
--- A `new` gives an object its first cells, and zeros behind them; a `set` writes cells of it from a place on; a `devget` gives it the cells of
--- a block; and a `devput` gives a block the cells that an object has then.
+-- A `new` gives an object its first cells, and zeros behind them; a `set` writes cells of it from a
+-- place on; a `devget` gives it the cells of a block; and a `devput` gives a block the cells that
+-- an object has then.
 abbrev pub store_after : LoadRows → Entry → Store → Store
 store_after L (entry.New t w o ty values) s = record s { objects = changed o (values ++ replicate (length (cells_of L.tables ty) - length values) 0) s.objects }
 store_after L (entry.Set t o at values) s = record s { objects = changed o (overwritten at values (s.objects o)) s.objects }
@@ -37,6 +39,7 @@ store_at L us = told (store_after L) empty_store us
 abbrev pub cells_at : LoadRows → List Turn → ℕ → List ℕ
 cells_at L us o = (store_at L us).objects o
 
--- what a block holds: the cells that the object of the last `devput` to it had at that `devput`, or zeros where there is none
+-- what a block holds: the cells that the object of the last `devput` to it had at that `devput`, or
+-- zeros where there is none
 abbrev pub block_at : LoadRows → List Turn → ℕ → List ℕ
 block_at L us b = (store_at L us).blocks b

@@ -10,7 +10,8 @@ use Rattle.rl_defs.specs.Parts.{StandFor, forms_of}
 use Rattle.rl_defs.specs.Refusals.{Nowhere}
 use Rattle.block_domain.specs.Driver.{driver_forms, interface_forms}
 
--- a domain part that neither rule 1 nor rule 2 refuses, with one domain, whose lines are the driver's
+-- a domain part that neither rule 1 nor rule 2 refuses, with one domain, whose lines are the
+-- driver's
 pub record IsDriverAt (first : ℕ) (text : List ℕ) : Type 0 where
   pub keeps : Nowhere (FailsDomains first (lines_of text))
   pub domain : DomainText
@@ -20,7 +21,8 @@ pub record IsDriverAt (first : ℕ) (text : List ℕ) : Type 0 where
 abbrev pub IsDriver : List ℕ → Type 0
 IsDriver text = (first : ℕ) → IsDriverAt first text
 
--- an interface part that neither rule 1 nor rule 2 refuses, whose lines are those of the driver's interface
+-- an interface part that neither rule 1 nor rule 2 refuses, whose lines are those of the driver's
+-- interface
 pub record IsInterfaceAt (first : ℕ) (text : List ℕ) : Type 0 where
   pub keeps : Nowhere (FailsIdl first (lines_of text))
   pub lines : List (Numbered IdlLine)

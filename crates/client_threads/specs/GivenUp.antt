@@ -15,7 +15,8 @@ abbrev pub without_object : ℕ → Option Value → Names → Names
 without_object k (Some (value.Obj o)) names = unbound k names
 without_object k held names = names
 
--- an argument that is a name takes the name's object away, if it holds one; no other argument takes anything
+-- an argument that is a name takes the name's object away, if it holds one; no other argument takes
+-- anything
 abbrev pub given_up_by : ScriptArg → Names → Names
 given_up_by (given.Name k) names = without_object k (name_held names k) names
 given_up_by arg names = names

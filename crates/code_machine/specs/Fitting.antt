@@ -51,7 +51,8 @@ pub record GoesToLabel (d : Domain) (n : ℕ) (regs : Registers) : Type 0 where
   pub leads : place_of_label d n (label_of instr) ≡ Some place
   pub fits : Fits types (at_label (kinds_at d n) instr) regs
 
--- A frame at an instruction gets an answer that fits it; a frame that waited for a call has given up the objects that it moved.
+-- A frame at an instruction gets an answer that fits it; a frame that waited for a call has given
+-- up the objects that it moved.
 pub record Awaits (d : Domain) (s : Stand) (a : Answer) : Type 0 where
   pub types : Typing
   pub instr : Instr
@@ -59,7 +60,8 @@ pub record Awaits (d : Domain) (s : Stand) (a : Answer) : Type 0 where
   pub fits : FitsStand types d s ⊎ FitsWaiting types d instr s
   pub answer : FitsAnswer types d (kinds_at d s.at) instr a
 
--- A call enters a method of a domain that has no native body, with arguments of its parameters' kinds.
+-- A call enters a method of a domain that has no native body, with arguments of its parameters'
+-- kinds.
 pub record Enters (d : Domain) (m : ℕ) (args : List Arg) : Type 0 where
   pub code : is_native d.lines ≡ false
   pub types : Typing

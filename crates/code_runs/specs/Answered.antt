@@ -18,8 +18,9 @@ use Rattle.machine_defs.specs.Instructions.{object_in}
 use Rattle.rl_defs.specs.CodeNames.{slot_number}
 use Rattle.code_runs.specs.Suits.{is_held}
 
--- An answer suits an instruction: what is made is of the struct; what is taken stands in the slot, or hangs in the cell; what comes back is
--- of the method's results; any call may fail; and what else is done has no answer but that it is done.
+-- An answer suits an instruction: what is made is of the struct; what is taken stands in the slot,
+-- or hangs in the cell; what comes back is of the method's results; any call may fail; and what
+-- else is done has no answer but that it is done.
 abbrev pub suits_instr : Typing → Domain → Sight → Stand → Instr → Answer → Bool
 suits_instr types d sight s (instr.New a ty) (answer.Made o) = types.struct_of o == struct_number d.tables ty
 suits_instr types d sight s (instr.Take a slot) (answer.Made o) = is_held (sight.slot (slot_number d slot)) o

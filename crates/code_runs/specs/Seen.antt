@@ -1,4 +1,5 @@
--- What a view that stands in memory says, and of which structs and traits it says that objects and targets are.
+-- What a view that stands in memory says, and of which structs and traits it says that objects and
+-- targets are.
 use Rattle.std.specs.Prelude.{ℕ, ◌^◌, List, [], Option, Some, None, slice_get}
 use Rattle.std.specs.List.{slice_index_or}
 use Rattle.machine_defs.specs.Sight.{Sight}

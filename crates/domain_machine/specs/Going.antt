@@ -7,7 +7,8 @@ use Rattle.domain_machine.specs.declared.world.Round.{Round}
 use Rattle.domain_machine.specs.declared.world.Round.TheVariants as round
 use Rattle.domain_machine.specs.Finished.{IsLong, LacksMemory}
 
--- The client made a step that comes next in going round from a place on. The next place is the one after its own.
+-- The client made a step that comes next in going round from a place on. The next place is the one
+-- after its own.
 pub record WentNext (old new : Kept) (place next : ℕ) : Type 0 where
   pub client : ℕ
   pub comes : next_turn old.load old.state place ≡ Some (client, next)

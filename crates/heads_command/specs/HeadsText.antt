@@ -33,8 +33,9 @@ rows_text h (a ∷ words) = row_text h a ++ rows_text (h + 1) words
 abbrev pub heads_text : ℕ → List HeadWord → ℕ → List ℕ
 heads_text n words x = line (codes "heads " ++ decimal n) ++ (rows_text 1 words ++ line (codes "returned " ++ decimal x))
 
--- These are the words that closing a table of n heads gave, at which two passes had done what they do: neither has a claim, a title, a loan
--- or a right any more, and the rule of the table holds of what they left.
+-- These are the words that closing a table of n heads gave, at which two passes had done what they
+-- do: neither has a claim, a title, a loan or a right any more, and the rule of the table holds of
+-- what they left.
 pub record AreClosedWords (n : ℕ) (words : List HeadWord) : Type 0 where
   pub table : Heads
   pub passes : List Pass

@@ -1,4 +1,5 @@
--- The open calls of a thread, as they are kept: each by its number and its instance, the oldest first.
+-- The open calls of a thread, as they are kept: each by its number and its instance, the oldest
+-- first.
 use Rattle.std.specs.Prelude.{◌≡◌, ℕ, ◌==◌, [], ◌∷◌, ◌++◌, List, filter, map, not, reverse, if◌then◌else◌}
 use Rattle.std.specs.List.{slice_index_or}
 use Rattle.machine_defs.specs.declared.entry.Entry.{Entry}

@@ -16,7 +16,8 @@ abbrev pub has_begun : List Turn → Bool
 has_begun [] = false
 has_begun (u ∷ us) = true
 
--- A reading keeps what these turns tell of calls, of objects, and of the accounts of the owners that it lists.
+-- A reading keeps what these turns tell of calls, of objects, and of the accounts of the owners
+-- that it lists.
 pub record Reads (r : Reading) (us : List Turn) : Type 0 where
   pub threads : (t : ℕ) → AreCallsKept (calls_of r.threads.items t) (open_calls us t)
   pub objects : (o : ℕ) → kept.told (kept.record_at r.objects.rows.items o) ≡ kept.told_at us o

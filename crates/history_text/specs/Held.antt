@@ -31,7 +31,8 @@ ValueIsHeld (value.Num n) = Fits64 n
 ValueIsHeld (value.Obj o) = Fits64 o
 ValueIsHeld (value.Cap x) = Fits32 x
 
--- Each number is as wide as its field, a slot is a name, and there are at most 8 arguments and 4 results.
+-- Each number is as wide as its field, a slot is a name, and there are at most 8 arguments and 4
+-- results.
 abbrev pub IsHeld : Entry → Type 0
 IsHeld (entry.Call t c x i m args) = Fits32 t × Fits32 c × Fits32 x × Fits32 i × Fits32 m × (length args ≤ 8) × All ArgIsHeld args
 IsHeld (entry.Refuse t c k x m args) = Fits32 t × Fits32 c × Fits32 x × Fits32 m × (length args ≤ 8) × All ArgIsHeld args

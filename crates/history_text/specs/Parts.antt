@@ -1,4 +1,5 @@
--- An entry's text in two parts: what stands before its arguments, results or values, and these. And what an entry tells of.
+-- An entry's text in two parts: what stands before its arguments, results or values, and these. And
+-- what an entry tells of.
 use Rattle.std.specs.Prelude.{ℕ, Bool, true, false, List, [], ◌++◌, codes}
 use Rattle.rl_defs.specs.declared.load.LoadRows.{LoadRows}
 use Rattle.machine_defs.specs.declared.entry.Entry.{Entry}

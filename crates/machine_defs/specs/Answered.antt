@@ -25,7 +25,8 @@ pub record IsGoneForGood (L : LoadRows) (us : List Turn) (x : ℕ) : Type 0 wher
   pub ended : ended_at us (current_at L us x) ≡ true
   pub used_up : reloads_of us x ≡ restarts_of L x
 
--- some open call of the thread is in a live serial instance whose rank, its load's number, isn't above the target's
+-- some open call of the thread is in a live serial instance whose rank, its load's number, isn't
+-- above the target's
 pub record BreaksOrder (L : LoadRows) (us : List Turn) (t x : ℕ) : Type 0 where
   pub serial : is_serial L (load_of_target L x) ≡ true
   pub before : List OpenCall

@@ -31,8 +31,8 @@ abbrev pub object_of_value : Value → Option ℕ
 object_of_value (value.Obj o) = Some o
 object_of_value _ = None
 
--- The last receiver of an object: the owner that its `new` names, the instance that a call moving it entered, who acts for the thread
--- just behind a `ret` moving it, or who acts at its `unhang`.
+-- The last receiver of an object: the owner that its `new` names, the instance that a call moving
+-- it entered, who acts for the thread just behind a `ret` moving it, or who acts at its `unhang`.
 abbrev pub objects_in : List Value → List ℕ
 objects_in values = filter_map object_of_value values
 

@@ -31,7 +31,8 @@ passed_to w os s = record s { objects = given_to w os s.objects }
 abbrev pub numbered : ℕ → State → State
 numbered c s = record s { next_call = c + 1 }
 
--- `call`: the wished call meets no refusal, and enters the live instance that its target stands for. The moved arguments pass to it.
+-- `call`: the wished call meets no refusal, and enters the live instance that its target stands
+-- for. The moved arguments pass to it.
 abbrev pub call_entered : ℕ → ℕ → ℕ → List Arg → StackFrame → State → State
 call_entered t c i args f s = numbered c (passed_to (owner.Instance i) (moved_of args) (with_stack s t (stack s t ++ f ∷ [])))
 
@@ -46,7 +47,8 @@ pub record Calls (L : LoadRows) (s : State) (t c x i m : ℕ) (args : List Arg) 
   pub begins : Begins L z c x i m args frame
   pub becomes : z ≡ call_entered t c i args frame charged
 
--- `refuse`: the wished call meets a refusal. Its moved arguments are dropped, and the caller gets the code.
+-- `refuse`: the wished call meets a refusal. Its moved arguments are dropped, and the caller gets
+-- the code.
 pub record Refuses (L : LoadRows) (s : State) (t c : ℕ) (why : RpcCode) (x m : ℕ) (args : List Arg) (z : State) : Type 0 where
   pub charged : State
   pub wants : wish L s t ≡ Some (record { target = x; method = m; args = args; charged = charged })
@@ -73,7 +75,8 @@ pub record IsDeadCall (s : State) (t c : ℕ) (frame : StackFrame) : Type 0 wher
   pub dead : is_dead s frame ≡ true
   pub call : c ≡ frame.call
 
--- the call may not be issued again: it went to no idempotent method of a shadow, or the shadow is gone for good
+-- the call may not be issued again: it went to no idempotent method of a shadow, or the shadow is
+-- gone for good
 abbrev pub is_over : LoadRows → State → StackFrame → Bool
 is_over L s f = not (is_reissuable L f) || is_gone L s f.target
 
@@ -84,7 +87,8 @@ pub record Unwinds (L : LoadRows) (s : State) (t c : ℕ) (z : State) : Type 0 w
   pub over : is_over L s frame ≡ true
   pub replies : Replies L (popped t s) t (answer.Failed code.Unwound) z
 
--- `again`: the call of the dead frame is issued once more in the shadow's live instance, with the same arguments and loans, at no charge.
+-- `again`: the call of the dead frame is issued once more in the shadow's live instance, with the
+-- same arguments and loans, at no charge.
 pub record IssuesAgain (L : LoadRows) (s : State) (t c x i : ℕ) (z : State) : Type 0 where
   pub dead : StackFrame
   pub frame : StackFrame
@@ -96,7 +100,8 @@ pub record IssuesAgain (L : LoadRows) (s : State) (t c x i : ℕ) (z : State) : 
   pub begins : Begins L z c x i dead.method dead.args frame
   pub becomes : z ≡ with_top t frame s
 
--- a thread needs the shadow: it wants to call it and meets no refusal, or its dead frame may be issued again through it
+-- a thread needs the shadow: it wants to call it and meets no refusal, or its dead frame may be
+-- issued again through it
 pub record WouldCall (L : LoadRows) (s : State) (t x : ℕ) : Type 0 where
   pub wished : Wish
   pub wants : wish L s t ≡ Some wished
@@ -113,7 +118,8 @@ pub record WouldReenter (L : LoadRows) (s : State) (t x : ℕ) : Type 0 where
 abbrev pub Needs : LoadRows → State → ℕ → ℕ → Type 0
 Needs L s t x = WouldCall L s t x ⊎ WouldReenter L s t x
 
--- `reload`: the instance of the shadow has ended and a restart is left. A fresh instance of its load takes its place; nothing else changes.
+-- `reload`: the instance of the shadow has ended and a restart is left. A fresh instance of its
+-- load takes its place; nothing else changes.
 abbrev pub reloaded : LoadRows → ℕ → ℕ → ℕ → State → State
 reloaded L x i left s = record s {
   instances = s.instances ++ option_map_or (λ l. first_instance L (load_of_target L x) l ∷ []) (load_row L (load_of_target L x)) [];

@@ -17,8 +17,8 @@ use Rattle.machine_defs.specs.Wants.{Want, Commands, Acts, arg_of, wanted}
 use Rattle.rl_defs.specs.Rows.{row}
 use Rattle.rl_defs.specs.Domains.{is_serial, load_of_target, method_of}
 
--- a call that a thread would make next: the target, the method, the arguments, and the state once the caller has paid for the
--- call and has given its moved objects up
+-- a call that a thread would make next: the target, the method, the arguments, and the state once
+-- the caller has paid for the call and has given its moved objects up
 pub record Wish : Type 0 where
   pub target : ℕ
   pub method : ℕ
@@ -83,7 +83,8 @@ others_in i t k (frames ∷ stacks) = (not (k == t) && is_in i frames) || others
 abbrev pub is_taken : LoadRows → State → ℕ → ℕ → Bool
 is_taken L s t i = is_serial L (instance_load s i) && others_in i t 1 s.stacks
 
--- a thread is enabled where it isn't done and doesn't wait to enter. A call that is issued again is not there yet
+-- a thread is enabled where it isn't done and doesn't wait to enter. A call that is issued again is
+-- not there yet
 abbrev pub is_undone : Option Thread → Bool
 is_undone None = false
 is_undone (Some thread) = not thread.done
@@ -114,7 +115,8 @@ is_idempotent L x m = option_map_or (λ method. method.idempotent) (method_of L 
 abbrev pub is_reissuable : LoadRows → StackFrame → Bool
 is_reissuable L f = is_shadow L f.target && is_idempotent L f.target f.method
 
--- a thread waits where its next step would enter a live serial instance in which another thread has a frame
+-- a thread waits where its next step would enter a live serial instance in which another thread has
+-- a frame
 abbrev pub would_enter : LoadRows → State → ℕ → Option Wish → Bool
 would_enter L s t None = false
 would_enter L s t (Some w) = (is_live s (current L s w.target) && is_none (refusal L s t w.target)) && is_taken L s t (current L s w.target)

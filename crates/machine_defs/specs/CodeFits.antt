@@ -23,7 +23,8 @@ abbrev pub stand_of : {N : Type 0} → FrameBody N → Stand
 stand_of (body.Code line regs) = record { at = line; regs = regs }
 stand_of (body.Native held state) = record { at = 0; regs = [] }
 
--- a frame stands at a line of a function that is reached from the line before it, with registers of the kinds that the line has
+-- a frame stands at a line of a function that is reached from the line before it, with registers of
+-- the kinds that the line has
 pub record FitsStand (types : Typing) (d : Domain) (s : Stand) : Type 0 where
   pub inside : is_inside (function_at d.lines s.at) ≡ true
   pub reached : is_reached d s.at ≡ true
@@ -42,8 +43,9 @@ abbrev pub is_number_cell : Option Kind → Bool
 is_number_cell (Some (kind.Num w)) = true
 is_number_cell _ = false
 
--- What a frame sees is of these types, and says so: an object has the number cells of its struct; what hangs in a cell, what is in a slot, and the target
--- that is bound to an import are of their types; a domain has at most 4,096 words.
+-- What a frame sees is of these types, and says so: an object has the number cells of its struct;
+-- what hangs in a cell, what is in a slot, and the target that is bound to an import are of their
+-- types; a domain has at most 4,096 words.
 pub record FitsSight (types : Typing) (d : Domain) (sight : Sight) : Type 0 where
   pub types_same : sight.types ≡ types
   pub cells : (o at : ℕ) → is_some (sight.cell o at) ≡ is_number_cell (slice_get (cells_of d.tables (types.struct_of o)) at)
@@ -58,7 +60,8 @@ are_values types [] [] = true
 are_values types (k ∷ kinds) (v ∷ values) = fits_kind types (as_register k) (Some v) && are_values types kinds values
 are_values types _ _ = false
 
--- What may be answered to the action of an instruction: an object of its struct, that it was done, or the results of its method or a code.
+-- What may be answered to the action of an instruction: an object of its struct, that it was done,
+-- or the results of its method or a code.
 abbrev pub FitsAnswer : Typing → Domain → Kinds → Instr → Answer → Type 0
 FitsAnswer types d kinds (instr.New a ty) (answer.Made o) = types.struct_of o ≡ struct_number d.tables ty
 FitsAnswer types d kinds (instr.Take a slot) (answer.Made o) = types.struct_of o ≡ slot_struct d slot

@@ -24,7 +24,8 @@ pub record StandsAt (d : Domain) (i : Instr) (s : Stand) : Type 0 where
   pub number : ℕ
   pub here : slice_get d.lines s.at ≡ Some (record { line = number; form = line.Code i })
 
--- At this stand, with this fuel, the frame would act so: it has no fuel, or the instruction there would.
+-- At this stand, with this fuel, the frame would act so: it has no fuel, or the instruction there
+-- would.
 abbrev pub Acts : Domain → Sight → ℕ → ℕ → Stand → Action → Type 0
 Acts d sight live fuel s act = ((fuel ≡ 0) × (act ≡ action.Trap cause.Fuel)) ⊎ (work d sight live s ≡ Would act)
 
@@ -39,7 +40,8 @@ pub record ComesTo (types : Typing) (d : Domain) (sight : Sight) (live fuel : �
   pub at : StandsAt d instr stand
   pub acts : Acts d sight live rest stand act
 
--- A frame that fits doesn't meet a register that doesn't hold what is asked for, nor a line that is no instruction.
+-- A frame that fits doesn't meet a register that doesn't hold what is asked for, nor a line that is
+-- no instruction.
 abbrev pub NeverStuck : Type 0
 NeverStuck = (d : Domain) (types : Typing) (sight : Sight) (live : ℕ) (s : Stand) → KeepsRules d → FitsSight types d sight → FitsStand types d s → work d sight live (behind_heads d s) ≡ Stuck → ⊥
 
@@ -47,7 +49,8 @@ NeverStuck = (d : Domain) (types : Typing) (sight : Sight) (live : ℕ) (s : Sta
 abbrev pub AlwaysSettles : Type 0
 AlwaysSettles = (d : Domain) (types : Typing) (sight : Sight) (live fuel : ℕ) (s : Stand) → KeepsRules d → FitsSight types d sight → FitsStand types d s → ComesTo types d sight live fuel s
 
--- A frame at an instruction fits again behind each answer that fits the instruction, whichever way it goes on.
+-- A frame at an instruction fits again behind each answer that fits the instruction, whichever way
+-- it goes on.
 abbrev pub AnswersFit : Type 0
 AnswersFit = (d : Domain) (types : Typing) (i : Instr) (a : Answer) (s : Stand) → KeepsRules d → StandsAt d i s → FitsStand types d s → FitsAnswer types d (kinds_at d s.at) i a → FitsStand types d (after_answer d s i a)
 
@@ -59,8 +62,8 @@ WaitingAnswersFit = (d : Domain) (types : Typing) (i : Instr) (a : Answer) (s : 
 abbrev pub GivesUp : Type 0
 GivesUp = (d : Domain) (types : Typing) (i : Instr) (s : Stand) → KeepsRules d → StandsAt d i s → FitsStand types d s → FitsWaiting types d i (record { at = s.at; regs = all_given_up (moved i) s.regs })
 
--- Arguments are of the kinds of the parameters of the domain's method with this number. (No two methods of a trait share a name; here it is
--- enough that none before this one has its name.)
+-- Arguments are of the kinds of the parameters of the domain's method with this number. (No two
+-- methods of a trait share a name; here it is enough that none before this one has its name.)
 pub record FitsArguments (types : Typing) (d : Domain) (m : ℕ) (args : List Arg) : Type 0 where
   pub method : MethodRow
   pub named : method_number d.tables (domain_trait d) method.name ≡ Some m

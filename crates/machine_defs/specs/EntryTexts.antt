@@ -56,7 +56,8 @@ ValueFits64 (value.Num n) = Fits64 n
 ValueFits64 (value.Obj o) = Fits64 o
 ValueFits64 (value.Cap x) = ⊤
 
--- The numbers that an entry's text writes have at most 64 bits, and its slot is a word, as in each value of the type `Entry`.
+-- The numbers that an entry's text writes have at most 64 bits, and its slot is a word, as in each
+-- value of the type `Entry`.
 abbrev pub IsWritten : Entry → Type 0
 IsWritten (entry.Call t c x i m args) = Fits64 t × Fits64 c × Fits64 i × All ArgFits64 args
 IsWritten (entry.Refuse t c k x m args) = Fits64 t × Fits64 c × All ArgFits64 args

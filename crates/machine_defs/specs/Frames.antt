@@ -1,4 +1,5 @@
--- Frames: how one begins, what it gets for an answer, and who gets the answer of a call that has ended.
+-- Frames: how one begins, what it gets for an answer, and who gets the answer of a call that has
+-- ended.
 use Rattle.std.specs.Prelude.{◌≡◌, ℕ, ◌+◌, [], ◌∷◌, ◌++◌, List, Some, slice_set, Option, None, slice_get, true, false, not, filter, Bool}
 use Rattle.std.specs.List.{filter_map}
 use Rattle.std.specs.Option.{option_and_then, option_map_or}
@@ -70,8 +71,8 @@ with_body f b = record f { body = b }
 abbrev pub frame_of : ℕ → ℕ → ℕ → ℕ → List Arg → FrameBody Action → StackFrame
 frame_of c x i m args b = record { call = c; target = x; instance = i; method = m; args = args; lent = lent_of args; body = b }
 
--- Code begins at its function's first line with the arguments in the first registers. A native body holds the moved arguments, and chooses
--- its first action.
+-- Code begins at its function's first line with the arguments in the first registers. A native body
+-- holds the moved arguments, and chooses its first action.
 abbrev pub BeginsBody : LoadRows → State → StackFrame → FrameBody Action → Type 0
 BeginsBody L z f (body.Code at regs) =
     (is_native (domain_of_load L (load_of_target L f.target)).lines ≡ false)
@@ -117,7 +118,8 @@ held_after (action.Drop o) answer.Went held = filter (λ p. not (has (o ∷ []) 
 held_after (action.Call x m args) (answer.Back results) held = held ++ filter_map object_of_value results
 held_after act a held = held
 
--- A frame of a live instance gets an answer to its action: code goes on as the table says, a native body chooses its next action.
+-- A frame of a live instance gets an answer to its action: code goes on as the table says, a native
+-- body chooses its next action.
 abbrev pub AnswersBody : LoadRows → State → StackFrame → Answer → FrameBody Action → StackFrame → Type 0
 AnswersBody L z f a (body.Code at regs) g = g ≡ with_body f (code_at (answered_code (domain_of_instance L z f.instance) (record { at = at; regs = regs }) a))
 AnswersBody L z f a (body.Native held act) g = (next : Action) × (g ≡ with_body f (body.Native (held_after act a held) next)) × CanChoose L z f (held_after act a held) next
@@ -130,7 +132,8 @@ abbrev pub results_in : Answer → List Value
 results_in (answer.Back results) = results
 results_in _ = []
 
--- a live caller is answered, in the state in which the call has ended; a frame of an ended instance gets nothing
+-- a live caller is answered, in the state in which the call has ended; a frame of an ended instance
+-- gets nothing
 pub record AnswersLive (L : LoadRows) (s : State) (t : ℕ) (f : StackFrame) (a : Answer) (z : State) : Type 0 where
   pub frame : StackFrame
   pub answers : Answers L z f a frame

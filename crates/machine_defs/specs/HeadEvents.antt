@@ -1,4 +1,5 @@
--- What each kind of step on a head is for its object in the domain machine: one event of the shared heap at most.
+-- What each kind of step on a head is for its object in the domain machine: one event of the shared
+-- heap at most.
 use Rattle.std.specs.Prelude.{◌≡◌, ℕ, zero, suc, ◌==◌, ◌≤◌, Bool, false, List, [], ◌∷◌, ◌++◌, map, length, Option, Some, None}
 use Rattle.machine_defs.specs.declared.values.Owner.TheVariants as owner
 use Rattle.machine_defs.specs.declared.values.Owner.{Owner}
@@ -15,7 +16,8 @@ use Rattle.machine_defs.specs.Seen.{ended}
 use Rattle.machine_defs.specs.Heads.{due, right, rights_of}
 use Rattle.machine_defs.specs.HeadSteps.{StepKind, Claim, Publish, Lend, GiveBack, Release, PassOn, TakeUp, End, Changes}
 
--- where an object is: not in the heap, with an owner of its own who lives or has ended, or below another object
+-- where an object is: not in the heap, with an owner of its own who lives or has ended, or below
+-- another object
 pub data Whereabouts : Type 0 where
   Absent : Whereabouts
   Owned : (ended : Bool) → Whereabouts
@@ -33,8 +35,8 @@ place_of s (Some x) = placed_at s x.placement
 abbrev pub whereabouts : State → ℕ → Whereabouts
 whereabouts s o = place_of s (object_of s o)
 
--- Where a head word says that its object is, and how often it is lent. It is there from its publication on, and gone as soon as someone has the right
--- of release.
+-- Where a head word says that its object is, and how often it is lent. It is there from its
+-- publication on, and gone as soon as someone has the right of release.
 abbrev pub unless_freed : ℕ → Bool → Whereabouts
 unless_freed zero ended = Owned ended
 unless_freed (suc rights) ended = Absent
@@ -65,9 +67,10 @@ pub data HeapEvent : Type 0 where
   Moves : HeapEvent
   OwnerEnds : HeapEvent
 
--- What becomes of a state by an event on an object, as the rows of the machine have it, before the step's sweep: a `new` makes it; a `call` begins with a
--- frame to which it is lent; a `ret` or an `unwound` ends such a frame; a `call` or a `ret` moves it to a live owner; and a `trap` or a `kill` ends the
--- instance that owns it.
+-- What becomes of a state by an event on an object, as the rows of the machine have it, before the
+-- step's sweep: a `new` makes it; a `call` begins with a frame to which it is lent; a `ret` or an
+-- `unwound` ends such a frame; a `call` or a `ret` moves it to a live owner; and a `trap` or a
+-- `kill` ends the instance that owns it.
 abbrev pub Happens : HeapEvent → ℕ → State → State → Type 0
 Happens New o s z = (L : LoadRows) × (ty : ℕ) × (w : Owner) × (values : List ℕ) × (o ≡ s.next_object) × (has_ended s w ≡ false) × (z ≡ with_new L ty w values s)
 Happens LoanBegins o s z = (t : ℕ) × (f : StackFrame) × (1 ≤ t) × (t ≤ length s.stacks) × (count o f.lent ≡ 1) × (z ≡ with_stack s t (stack s t ++ f ∷ []))
@@ -90,12 +93,13 @@ abbrev pub HappensIfAny : Option HeapEvent → ℕ → State → State → Type 
 HappensIfAny None o s z = z ≡ s
 HappensIfAny (Some event) o s z = Happens event o s z
 
--- The state behind the event, swept as each step's is, has the object as the new head word says; and the sweep frees the object exactly where the new word
--- has a right of release.
+-- The state behind the event, swept as each step's is, has the object as the new head word says;
+-- and the sweep frees the object exactly where the new word has a right of release.
 pub record Follows (z : State) (o : ℕ) (b : HeadWord) : Type 0 where
   pub shows : Shows (sweep z) o b
   pub frees : has (freed z) o ≡ (due b right == 1)
 
--- Wherever the machine has the object as the word that a step finds says, the step's one event, or none, makes it as the word that the step leaves says.
+-- Wherever the machine has the object as the word that a step finds says, the step's one event, or
+-- none, makes it as the word that the step leaves says.
 abbrev pub EachStepIsOneEvent : Type 0
 EachStepIsOneEvent = (kind : StepKind) (a b : HeadWord) (o : ℕ) (s z : State) → Changes kind a b → Shows s o a → HappensIfAny (event_of kind) o s z → Follows z o b

@@ -1,4 +1,5 @@
--- The kinds of step on a head: what each does to the word, and to the view and the places of the seat that makes it.
+-- The kinds of step on a head: what each does to the word, and to the view and the places of the
+-- seat that makes it.
 use Rattle.std.specs.Prelude.{◌≡◌, ℕ, zero, suc, ◌+◌, ◌-◌, Bool, true, false, ◌&&◌, List, ◌∷◌, ◌++◌, Option, Some, None}
 use Rattle.machine_defs.specs.declared.heads.HeadWord.{HeadWord}
 use Rattle.machine_defs.specs.declared.heads.HeadWord.TheVariants.{Vacant, Busy, Gone, Live}
@@ -21,7 +22,8 @@ pub data StepKind : Type 0 where
 abbrev pub published : HeadWord
 published = Live 0 false None
 
--- The word that a step of each kind finds, and the word that it leaves. A head may be lent while it isn't ended, or is lent already.
+-- The word that a step of each kind finds, and the word that it leaves. A head may be lent while it
+-- isn't ended, or is lent already.
 abbrev pub Changes : StepKind → HeadWord → HeadWord → Type 0
 Changes Claim a b = (a ≡ Vacant) × (b ≡ Busy)
 Changes Publish a b = (a ≡ Busy) × (b ≡ published)

@@ -107,7 +107,8 @@ abbrev pub known : ℕ → List Title → Option (List ℕ)
 known h [] = None
 known h (t ∷ ts) = cond (t.head == h) t.list (known h ts)
 
--- the words, the payloads' places and the views of all seats. The word 0 belongs to the seats; the head h has the word h and the place h - 1
+-- the words, the payloads' places and the views of all seats. The word 0 belongs to the seats; the
+-- head h has the word h and the place h - 1
 pub record Table : Type 0 where
   pub words : List ℕ
   pub homes : List (maybe.Option Slot)

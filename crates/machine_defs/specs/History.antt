@@ -1,4 +1,5 @@
--- What a history tells. It is cut into turns, and each reading is of the turns before a place, the newest first.
+-- What a history tells. It is cut into turns, and each reading is of the turns before a place, the
+-- newest first.
 use Rattle.std.specs.Prelude.{ℕ, fold, filter, map, not, unwrap_or, ◌++◌, ◌+◌, ◌-◌, ◌==◌, ◌&&◌, ◌||◌, [], ◌∷◌, List, Bool, false, Option, Some, None, length, if◌then◌else◌}
 use Rattle.std.specs.List.{list_any, flat_map, range_with_len}
 use Rattle.std.specs.Option.{option_map_or}
@@ -34,7 +35,8 @@ abbrev pub told : {A : Type 0} → (Entry → A → A) → A → List Turn → A
 told change first [] = first
 told change first (u ∷ us) = change u.entry (told change first us)
 
--- how many calls were made, refused ones too; how many reloads there were, and how many of a shadow; how many objects were made
+-- how many calls were made, refused ones too; how many reloads there were, and how many of a
+-- shadow; how many objects were made
 abbrev pub is_call : Entry → ℕ
 is_call (entry.Call t c x i m args) = 1
 is_call (entry.Refuse t c why x m args) = 1
@@ -120,8 +122,8 @@ current_at L us x = told (current_after x) (load_of_target L x) us
 abbrev pub restarts_of : LoadRows → ℕ → ℕ
 restarts_of L x = option_map_or (λ shadow. shadow.restarts) (row L.shadows (x - length L.loads)) 0
 
--- The last receiver of an object: the owner that its `new` names, the instance that a call moving it entered, who acts just after a `ret`
--- moving it, or who acts at its `unhang`.
+-- The last receiver of an object: the owner that its `new` names, the instance that a call moving
+-- it entered, who acts just after a `ret` moving it, or who acts at its `unhang`.
 abbrev pub receiver_after : ℕ → Entry → Owner → Owner → Owner → Owner
 receiver_after o (entry.Call t c x i m args) at after old = if has (moved_of args) o then owner.Instance i else old
 receiver_after o (entry.Ret t c results) at after old = if has (objects_in results) o then after else old
@@ -151,7 +153,8 @@ cell_after o at _ old = old
 abbrev pub cell_at : List Turn → ℕ → ℕ → Option ℕ
 cell_at us o at = told (cell_after o at) None us
 
--- the root above an object: its parent, which has none in a run, or itself; the root's last receiver owns it
+-- the root above an object: its parent, which has none in a run, or itself; the root's last
+-- receiver owns it
 abbrev pub root_at : List Turn → ℕ → ℕ
 root_at us o = unwrap_or (parent_at us o) o
 

@@ -99,8 +99,8 @@ calculate op.Xor x y = Some (bit_xor x y)
 calculate op.Lt x y = Some (bit (nat_lt x y))
 calculate op.Eq x y = Some (bit (x == y))
 
--- an instruction goes on at the next line; goes on at its label; would make an action, or trap; or meets a register that doesn't
--- hold what it needs, or stands where no instruction does
+-- an instruction goes on at the next line; goes on at its label; would make an action, or trap; or
+-- meets a register that doesn't hold what it needs, or stands where no instruction does
 pub data Outcome : Type 0 where
   Works : (regs : Registers) → Outcome
   Jumps : (regs : Registers) → Outcome
@@ -170,8 +170,8 @@ abbrev pub setting : Option ℕ → Kind → ℕ → ℕ → ℕ → Outcome
 setting None k o place v = traps cause.Bounds
 setting (Some old) k o place v = unless_trap (number_fits k v) cause.Range (action.Set o place (v ∷ []))
 
--- The table of the instructions, where each register that is read holds what is asked for. The frame stands at line n of the domain;
--- `live` objects are live.
+-- The table of the instructions, where each register that is read holds what is asked for. The
+-- frame stands at line n of the domain; `live` objects are live.
 abbrev pub meaning : Domain → ℕ → Sight → ℕ → Registers → Instr → Outcome
 meaning d n sight live regs (instr.Const a k) = Works (with_number regs a k)
 meaning d n sight live regs (instr.Copy a b) = Works (with_value regs a (value_in regs b))
@@ -228,7 +228,8 @@ behind_head d place regs = entered_line (slice_get d.lines place) place regs
 abbrev pub jumped : Domain → ℕ → Registers → Stand
 jumped d n regs = behind_head d (unwrap_or (place_of_label d n (label_of_line (slice_get d.lines n))) 0) regs
 
--- where register work ends: before an action or a trap, with the fuel, the line and the registers there
+-- where register work ends: before an action or a trap, with the fuel, the line and the registers
+-- there
 pub data Settled : Type 0 where
   Nowhere : Settled
   Before : (act : Action) (fuel : ℕ) (stand : Stand) → Settled
@@ -242,8 +243,9 @@ go_on d Stuck next fuel s = Nowhere
 abbrev pub work : Domain → Sight → ℕ → Stand → Outcome
 work d sight live s = line_meaning d s.at sight live s.regs (slice_get d.lines s.at)
 
--- The first action or trap from where a frame stands. Heads cost nothing. Each instruction costs 1, but the one that acts or traps is
--- charged with what it does; one that would begin at fuel 0 is the trap `fuel`.
+-- The first action or trap from where a frame stands. Heads cost nothing. Each instruction costs 1,
+-- but the one that acts or traps is charged with what it does; one that would begin at fuel 0 is
+-- the trap `fuel`.
 abbrev pub settle : Domain → Sight → ℕ → ℕ → Stand → Settled
 settle d sight live zero s = Before (action.Trap cause.Fuel) 0 (behind_heads d s)
 settle d sight live (suc fuel) s = go_on d (work d sight live (behind_heads d s)) (settle d sight live fuel) (suc fuel) (behind_heads d s)
@@ -277,7 +279,8 @@ answered (instr.Call c method args results e label) (answer.Back values) regs = 
 answered (instr.Call c method args results e label) (answer.Failed failure) regs = with_number (all_given_up (passed args) regs) e (code_number failure)
 answered i a regs = regs
 
--- where a frame stands behind an answer: at the next line, or, where its call failed, behind the head of the call's label
+-- where a frame stands behind an answer: at the next line, or, where its call failed, behind the
+-- head of the call's label
 abbrev pub after_answer_at : Domain → ℕ → Answer → Registers → Stand
 after_answer_at d n (answer.Failed failure) regs = jumped d n regs
 after_answer_at d n _ regs = record { at = n + 1; regs = regs }

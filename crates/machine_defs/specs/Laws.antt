@@ -1,4 +1,5 @@
--- The laws of the machine: what holds of every run of every valid load. Which of them are proved, and where, docs/MACHINE.md says.
+-- The laws of the machine: what holds of every run of every valid load. Which of them are proved,
+-- and where, docs/MACHINE.md says.
 use Rattle.std.specs.Prelude.{◌≡◌, ℕ, ◌++◌, ◌⊎◌, ◌≢◌, [], ◌∷◌, List, Bool, true, false, Some, if◌then◌else◌}
 use Rattle.machine_defs.specs.declared.values.Cause.TheVariants as cause
 use Rattle.machine_defs.specs.declared.values.Owner.TheVariants as owner
@@ -25,7 +26,8 @@ use Rattle.rl_defs.specs.Rows.{row}
 use Rattle.machine_defs.specs.Loans.{object_of}
 use Rattle.machine_defs.specs.Entries.{thread_of}
 
--- A history is cut where its turns end: a step adds its own turn to those of the history, so a run's turns are those of its history.
+-- A history is cut where its turns end: a step adds its own turn to those of the history, so a
+-- run's turns are those of its history.
 abbrev pub TurnsAreTold : Type 0
 TurnsAreTold = (L : LoadRows) (H : List Entry) (s z : State) (turn : Turn) → Step L s turn z → turns_of (H ++ entries_of_turn turn) ≡ turn ∷ turns_of H
 
@@ -33,8 +35,9 @@ TurnsAreTold = (L : LoadRows) (H : List Entry) (s z : State) (turn : Turn) → S
 abbrev pub OrderedRunsGoOn : Type 0
 OrderedRunsGoOn = (L : LoadRows) (H G : List Entry) (s z : State) (place : ℕ) → Run L H s → Ordered L s G z place → Run L (H ++ G) z
 
--- What the history of a run tells: each call is answered with its cause, each object has one owner until it is given up once, what is freed has a
--- cause, and words and slots change only by what their own instance does.
+-- What the history of a run tells: each call is answered with its cause, each object has one owner
+-- until it is given up once, what is freed has a cause, and words and slots change only by what
+-- their own instance does.
 pub record TellsLaws (L : LoadRows) (H : List Entry) (s : State) : Type 0 where
   pub answered : Always (λ us u. Answered L us u.entry) (turns_of H)
   pub owned : Always (OwnedOnce L) (turns_of H)
@@ -65,7 +68,8 @@ EnabledThreadsStep = (L : LoadRows) (H : List Entry) (s : State) → Valid L →
 abbrev pub IsOf : State → ℕ → Object → Type 0
 IsOf s i x = (x.placement ≡ Root (owner.Instance i)) ⊎ ((p k : ℕ) × (x.placement ≡ Hung p k) × IsRoot s p (owner.Instance i))
 
--- An end of an instance leaves all other instances and all frames as they are. It frees objects of that instance alone, and the others stay.
+-- An end of an instance leaves all other instances and all frames as they are. It frees objects of
+-- that instance alone, and the others stay.
 pub record EndsAlone (s : State) (u : Turn) (i : ℕ) (z : State) : Type 0 where
   pub frames : z.stacks ≡ s.stacks
   pub instances : (j : ℕ) → j ≢ i → row z.instances j ≡ row s.instances j
@@ -105,6 +109,7 @@ leaves_choice _ = true
 abbrev pub but_for_choice : Entry → State → State
 but_for_choice e s = if leaves_choice e then unchosen (thread_of e) s else s
 
--- A step is determined by the state and its entry, but for the action that a native body chooses after it.
+-- A step is determined by the state and its entry, but for the action that a native body chooses
+-- after it.
 abbrev pub StepsAreDetermined : Type 0
 StepsAreDetermined = (L : LoadRows) (s y z : State) (u v : Turn) → Step L s u y → Step L s v z → u.entry ≡ v.entry → (u.frees ≡ v.frees) × (but_for_choice u.entry y ≡ but_for_choice u.entry z)

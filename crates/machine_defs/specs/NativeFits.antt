@@ -70,7 +70,8 @@ pub record CanMake (L : LoadRows) (held : List ℕ) (ty : ℕ) : Type 0 where
   pub numbers : list_all is_number struct.flat ≡ true
   pub room : length held < 8
 
--- `set`: one number cell or more of a held object, from a place on, each to a number within its width
+-- `set`: one number cell or more of a held object, from a place on, each to a number within its
+-- width
 pub record CanSet (L : LoadRows) (s : State) (held : List ℕ) (o at : ℕ) (values : List ℕ) : Type 0 where
   pub holds : has held o ≡ true
   pub some : 0 < length values
@@ -81,8 +82,9 @@ pub record CanPutWord (s : State) (f : StackFrame) (at v : ℕ) : Type 0 where
   pub inside : at < length (words s f.instance)
   pub width : v < 2 ^ 64
 
--- `call`: a method of a target that is bound to an import. What it moves is held, what it lends is held or lent to the frame; nothing is
--- moved twice, or moved and lent; and there is room for the results
+-- `call`: a method of a target that is bound to an import. What it moves is held, what it lends is
+-- held or lent to the frame; nothing is moved twice, or moved and lent; and there is room for the
+-- results
 pub record CanCall (L : LoadRows) (s : State) (f : StackFrame) (held : List ℕ) (x m : ℕ) (args : List Arg) : Type 0 where
   pub import : ℕ
   pub bound : slice_get (binds L (instance_load s f.instance)) import ≡ Some x

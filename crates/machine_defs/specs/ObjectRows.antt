@@ -1,4 +1,5 @@
--- The steps that make, change and move objects, words, slots and blocks, and the client's steps that change none of them.
+-- The steps that make, change and move objects, words, slots and blocks, and the client's steps
+-- that change none of them.
 use Rattle.std.specs.Prelude.{◌≡◌, ℕ, ◌-◌, ◌⊎◌, [], ◌∷◌, Some, List, None, slice_set, slice_get, true}
 use Rattle.std.specs.List.{slice_index_or}
 use Rattle.machine_defs.specs.declared.frame.Action.TheVariants as action
@@ -23,7 +24,8 @@ use Rattle.machine_defs.specs.Seen.{with_word, domain_of_instance, in_slot, with
 use Rattle.rl_defs.specs.Domains.{slots_of}
 use Rattle.machine_defs.specs.Loans.{object_of}
 
--- The top frame of a thread, of instance i, makes an action: it is charged 1, the state changes so, and the frame gets the answer.
+-- The top frame of a thread, of instance i, makes an action: it is charged 1, the state changes so,
+-- and the frame gets the answer.
 pub record Does (L : LoadRows) (s : State) (t i : ℕ) (act : Action) (a : Answer) (change : State → State) (z : State) : Type 0 where
   pub thread : Thread
   pub fuel : ℕ
@@ -35,7 +37,8 @@ pub record Does (L : LoadRows) (s : State) (t i : ℕ) (act : Action) (a : Answe
   pub answers : Answers L z frame a after
   pub becomes : z ≡ change (with_top t after (with_thread s t (with_fuel (fuel - 1) thread)))
 
--- A client does a command: it is charged, the state changes so, and the command's names hold the results.
+-- A client does a command: it is charged, the state changes so, and the command's names hold the
+-- results.
 pub record Commanded (L : LoadRows) (s : State) (t : ℕ) (next : Command) (results : List Value) (change : State → State) (z : State) : Type 0 where
   pub thread : Thread
   pub of : row s.threads t ≡ Some thread
@@ -48,7 +51,8 @@ Gives (command.Let name ty values) of given = (of ≡ ty) × (given ≡ values)
 Gives (command.Text name ty bytes) of given = (of ≡ ty) × (given ≡ bytes)
 Gives _ of given = ⊥
 
--- `new`: a client's `let` or `text`, or a frame's `new`, makes an object with the next number; a frame's has no values of its own.
+-- `new`: a client's `let` or `text`, or a frame's `new`, makes an object with the next number; a
+-- frame's has no values of its own.
 pub record ClientMakes (L : LoadRows) (s : State) (t : ℕ) (w : Owner) (o ty : ℕ) (values : List ℕ) (z : State) : Type 0 where
   pub next : Command
   pub gives : Gives next ty values
@@ -152,7 +156,8 @@ pub record Shows (L : LoadRows) (s : State) (t o : ℕ) (values : List Value) (z
   pub lists : values ≡ shown s o
   pub does : Commanded L s t (command.Show name) [] same z
 
--- `skip`: the command with this number uses a name that isn't bound, or would make an object where 65,536 are live
+-- `skip`: the command with this number uses a name that isn't bound, or would make an object where
+-- 65,536 are live
 pub record SkipsCommand (L : LoadRows) (s : State) (t number : ℕ) (z : State) : Type 0 where
   pub thread : Thread
   pub of : row s.threads t ≡ Some thread

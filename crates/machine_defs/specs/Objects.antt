@@ -35,7 +35,8 @@ hangs_in o at (Hung parent place) = (parent == o) && (place == at)
 abbrev pub hung_in : State → ℕ → ℕ → Option ℕ
 hung_in s o at = option_map (λ x. x.number) (find (λ x. hangs_in o at x.placement) s.objects)
 
--- What `show` lists: the cells up to the last that isn't 0. An empty cell for an `RRef` is 0, a full one is the object that hangs in it.
+-- What `show` lists: the cells up to the last that isn't 0. An empty cell for an `RRef` is 0, a
+-- full one is the object that hangs in it.
 abbrev pub cell_value : Option ℕ → ℕ → Value
 cell_value None n = value.Num n
 cell_value (Some v) n = value.Obj v
@@ -70,7 +71,8 @@ with_new L ty w values s = record s {
   next_object = s.next_object + 1;
 }
 
--- the objects with these numbers leave the heap. What hangs below them stays, until the step's end frees it
+-- the objects with these numbers leave the heap. What hangs below them stays, until the step's end
+-- frees it
 abbrev pub without : List ℕ → State → State
 without os s = record s { objects = filter (λ x. not (has os x.number)) s.objects }
 

@@ -65,8 +65,8 @@ named (entry.Unhang t o place v) = o ∷ v ∷ []
 named (entry.Show t o values) = o ∷ objects_in values
 named _ = []
 
--- Whoever takes an object owns it; an entry names only objects that were made and aren't gone; and what is freed was still there, and is
--- freed once.
+-- Whoever takes an object owns it; an entry names only objects that were made and aren't gone; and
+-- what is freed was still there, and is freed once.
 pub record OwnedOnce (L : LoadRows) (us : List Turn) (u : Turn) : Type 0 where
   pub rights : OwnedEntry L us u.entry
   pub names : Each (IsThere us) (named u.entry)

@@ -1,4 +1,5 @@
--- The report of a run: what is left on the shared heap, and what each owner made, received, passed on and freed; and the summary.
+-- The report of a run: what is left on the shared heap, and what each owner made, received, passed
+-- on and freed; and the summary.
 use Rattle.std.specs.Prelude.{ℕ, ◌+◌, ◌==◌, ◌&&◌, not, Bool, true, false, if◌then◌else◌, List, [], ◌∷◌, ◌++◌, length, filter, map, codes, Option, None, Some}
 use Rattle.std.specs.List.{flat_map, filter_map, range_with_len}
 use Rattle.std.specs.Option.{option_map_or}
@@ -58,8 +59,10 @@ pub record Account : Type 0 where
 abbrev pub owned_by : List Turn → Owner → List ℕ → ℕ
 owned_by us w os = length (filter (λ o. same_owner (owner_at us o) w) os)
 
--- An account by the turns of a history, the newest first: a `new` is made for its owner; what passes at a `call` or `ret`, with what hangs in it,
--- is passed on by who acts at it and received by who acts after it; what an entry drops, and what is freed after it, is freed of its last owner.
+-- An account by the turns of a history, the newest first: a `new` is made for its owner; what
+-- passes at a `call` or `ret`, with what hangs in it, is passed on by who acts at it and received
+-- by who acts after it; what an entry drops, and what is freed after it, is freed of its last
+-- owner.
 abbrev pub account : List Turn → Owner → Account
 account [] w = record { made = 0; received = 0; passed = 0; freed = 0 }
 account (u ∷ us) w = record {
@@ -92,7 +95,8 @@ report_text L H s = flat_map (object_line L (turns_of H) s) s.objects ++ flat_ma
 abbrev pub out_text : LoadRows → List Entry → State → List ℕ
 out_text L H s = line (codes "history") ++ (history_text L H ++ (line (codes "replies") ++ (replies_text L H ++ (line (codes "report") ++ report_text L H s))))
 
--- The summary of a run: how many entries there are, calls that entered, calls that failed, objects made, freed and left.
+-- The summary of a run: how many entries there are, calls that entered, calls that failed, objects
+-- made, freed and left.
 abbrev pub enters : Entry → Bool
 enters (entry.Call t c x i m args) = true
 enters _ = false

@@ -1,4 +1,5 @@
--- What register work and native bodies see: their instance's words, slots and bindings, the types and cells of objects, and the device.
+-- What register work and native bodies see: their instance's words, slots and bindings, the types
+-- and cells of objects, and the device.
 use Rattle.std.specs.Prelude.{ℕ, ◌-◌, ◌==◌, [], List, Option, Some, None, slice_get, slice_set, length, false, if◌then◌else◌}
 use Rattle.std.specs.List.{slice_index_or}
 use Rattle.std.specs.Option.{option_map_or, unwrap_or}
@@ -26,12 +27,13 @@ slots s i = option_map_or (λ instance. instance.slots) (row s.instances i) []
 abbrev pub in_slot : State → ℕ → ℕ → Option ℕ
 in_slot s i k = unwrap_or (slice_get (slots s i) k) None
 
--- how many blocks of the device a load sees: those of the `device` line where it is the device's load, else none
+-- how many blocks of the device a load sees: those of the `device` line where it is the device's
+-- load, else none
 abbrev pub blocks_seen : LoadRows → ℕ → ℕ
 blocks_seen L k = if k == L.device_load then L.blocks else 0
 
--- of which struct each object is, and of which trait each target: an object that isn't there is of no struct, a number that is no target
--- of no trait
+-- of which struct each object is, and of which trait each target: an object that isn't there is of
+-- no struct, a number that is no target of no trait
 abbrev pub types_of : LoadRows → State → Typing
 types_of L s = record {
   struct_of = λ o. option_map_or (λ x. x.ty) (object_of s o) (length L.tables.structs);

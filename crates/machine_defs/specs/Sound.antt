@@ -44,7 +44,8 @@ use Rattle.rl_defs.specs.Widths.{number_suits, fits_width}
 abbrev pub owner_lives : State → Owner → Bool
 owner_lives s w = not (has_ended s w)
 
--- the objects that a frame has of its own: those in its registers that weren't lent to it, or those that its native body holds
+-- the objects that a frame has of its own: those in its registers that weren't lent to it, or those
+-- that its native body holds
 abbrev pub object_held : Option Value → Option ℕ
 object_held v = option_and_then object_of_value v
 
@@ -55,7 +56,8 @@ own_of_body lent (body.Native held act) = held
 abbrev pub own_of : StackFrame → List ℕ
 own_of f = own_of_body f.lent f.body
 
--- in how many places an owner has an object: the script names of a client; the slots of an instance and what its frames have of their own
+-- in how many places an owner has an object: the script names of a client; the slots of an instance
+-- and what its frames have of their own
 abbrev pub in_names : ℕ → Option Thread → ℕ
 in_names o thread = option_map_or (λ thread. count o (filter_map object_held thread.names)) thread 0
 
@@ -107,8 +109,8 @@ pub record HoldsAs (L : LoadRows) (s : State) (f : StackFrame) (known : RegKind)
   pub kind : slice_get (kinds_at (domain_of_instance L s f.instance) at) number ≡ Some known
   pub object : slice_get regs number ≡ Some (Some (value.Obj o))
 
--- What is lent is a root, to frames of one stack, and what its ended owner had is still lent. While its owner lives, its one place is a frame
--- below all of these, or a script name of that client.
+-- What is lent is a root, to frames of one stack, and what its ended owner had is still lent. While
+-- its owner lives, its one place is a frame below all of these, or a script name of that client.
 pub record LoansStand (L : LoadRows) (s : State) : Type 0 where
   pub ended : (o i : ℕ) → IsRoot s o (owner.Instance i) → is_live s i ≡ false → 0 < loans s o
   pub roots : (o : ℕ) → 0 < loans s o → (w : Owner) × IsRoot s o w
@@ -119,8 +121,9 @@ pub record LoansStand (L : LoadRows) (s : State) : Type 0 where
   pub of_client : (t u o : ℕ) (below : List StackFrame) (f : StackFrame) → IsFrame s t below f → has f.lent o ≡ true → IsRoot s o (owner.Client u) → (t ≡ u) × (in_names o (row s.threads u) ≡ 1)
   pub of_instance : (t i o : ℕ) (below : List StackFrame) (f : StackFrame) → IsFrame s t below f → has f.lent o ≡ true → IsRoot s o (owner.Instance i) → is_live s i ≡ true → 0 < own_in i o below
 
--- A frame is in an instance of its target's load. A live serial instance has frames of one thread, and calls into serial loads go down in
--- rank: a frame whose load is serial ranks below each live serial instance below it.
+-- A frame is in an instance of its target's load. A live serial instance has frames of one thread,
+-- and calls into serial loads go down in rank: a frame whose load is serial ranks below each live
+-- serial instance below it.
 pub record FramesPlaced (L : LoadRows) (s : State) : Type 0 where
   pub loads : (t : ℕ) (below : List StackFrame) (f : StackFrame) → IsFrame s t below f → instance_load s f.instance ≡ load_of_target L f.target
   pub opened : (t : ℕ) (below : List StackFrame) (f : StackFrame) → IsFrame s t below f → (0 < f.instance) × (f.instance ≤ length s.instances)
@@ -129,7 +132,8 @@ pub record FramesPlaced (L : LoadRows) (s : State) : Type 0 where
   pub numbers : (t : ℕ) (below : List StackFrame) (f : StackFrame) → IsFrame s t below f → f.call < s.next_call
   pub rising : (t : ℕ) (below under : List StackFrame) (f g : StackFrame) → IsFrame s t below f → (above : List StackFrame) → below ≡ under ++ g ∷ above → g.call < f.call
 
--- An argument that was moved may be anywhere by now; the others are of the kinds of the parameters still.
+-- An argument that was moved may be anywhere by now; the others are of the kinds of the parameters
+-- still.
 abbrev pub arg_stands : Typing → Kind → Arg → Bool
 arg_stands types k (arg.Moved o) = is_object k
 arg_stands types k a = arg_suits types k a
@@ -142,7 +146,8 @@ pub record ArgumentsFit (L : LoadRows) (s : State) (f : StackFrame) : Type 0 whe
   pub row : method_of L f.target f.method ≡ Some method
   pub suits : args_stand (types_of L s) method.params f.args ≡ true
 
--- Code that waits stands at its call of the method that the frame above it is for, without the objects that it moved: so it fits both ways on.
+-- Code that waits stands at its call of the method that the frame above it is for, without the
+-- objects that it moved: so it fits both ways on.
 pub record WaitsFor (L : LoadRows) (s : State) (f : StackFrame) (at : ℕ) (regs : List (Option Value)) (above : StackFrame) : Type 0 where
   pub target : Register
   pub name : List ℕ
@@ -154,8 +159,9 @@ pub record WaitsFor (L : LoadRows) (s : State) (f : StackFrame) (at : ℕ) (regs
   pub fits : FitsWaiting (types_of L s) (domain_of_instance L s f.instance) (instr.Call target name args results failed label) (record { at = at; regs = regs })
   pub calls : method_called (domain_of_instance L s f.instance).tables (kind_in (kinds_at (domain_of_instance L s f.instance) at) target) name ≡ method_of L above.target above.method
 
--- A code frame of a live instance fits its line, and one that waits its call. A native frame is of a native domain: the action that it wants
--- fits it, and one that waits has made the call of the frame above it.
+-- A code frame of a live instance fits its line, and one that waits its call. A native frame is of
+-- a native domain: the action that it wants fits it, and one that waits has made the call of the
+-- frame above it.
 abbrev pub BodyFits : LoadRows → State → StackFrame → List StackFrame → FrameBody Action → Type 0
 BodyFits L s f [] (body.Code at regs) = FitsStand (types_of L s) (domain_of_instance L s f.instance) (record { at = at; regs = regs })
 BodyFits L s f (g ∷ above) (body.Code at regs) = WaitsFor L s f at regs g
@@ -167,8 +173,8 @@ abbrev pub brought_by : LoadRows → List StackFrame → ℕ
 brought_by L [] = 0
 brought_by L (g ∷ above) = length (filter is_object (results_of (method_of L g.target g.method)))
 
--- What frames, slots and script names hold is of the kinds that code, domains and commands give them; and a native frame has room for 8
--- objects, with those that its call may yet bring.
+-- What frames, slots and script names hold is of the kinds that code, domains and commands give
+-- them; and a native frame has room for 8 objects, with those that its call may yet bring.
 pub record KindsFit (L : LoadRows) (s : State) : Type 0 where
   pub arguments : (t : ℕ) (below : List StackFrame) (f : StackFrame) → IsFrame s t below f → ArgumentsFit L s f
   pub bodies : (t : ℕ) (below : List StackFrame) (f : StackFrame) → (here : IsFrame s t below f) → is_live s f.instance ≡ true → BodyFits L s f here.above f.body
@@ -176,7 +182,8 @@ pub record KindsFit (L : LoadRows) (s : State) : Type 0 where
   pub slots : (i k o : ℕ) → is_live s i ≡ true → in_slot s i k ≡ Some o → (types_of L s).struct_of o ≡ struct_number L.tables (type_at (slots_declared (domain_of_instance L s i).lines) (Some k))
   pub names : (t k : ℕ) (thread : Thread) (v : Value) → row s.threads t ≡ Some thread → name_held thread.names k ≡ Some v → (of : Kind) × BindsName L t k of × (value_suits (types_of L s) of v ≡ true)
 
--- A shadow stands for an instance of its load, and has as many restarts left as its load was not loaded again.
+-- A shadow stands for an instance of its load, and has as many restarts left as its load was not
+-- loaded again.
 abbrev pub instances_of : ℕ → List Instance → ℕ
 instances_of k [] = 0
 instances_of k (i ∷ others) = (if i.load == k then 1 else 0) + instances_of k others
@@ -185,7 +192,8 @@ pub record ShadowsStand (L : LoadRows) (s : State) : Type 0 where
   pub current : (k : ℕ) (shadow : Shadow) (x : ShadowRow) → row s.shadows k ≡ Some shadow → row L.shadows k ≡ Some x → instance_load s shadow.current ≡ x.load
   pub left : (k : ℕ) (shadow : Shadow) (x : ShadowRow) → row s.shadows k ≡ Some shadow → row L.shadows k ≡ Some x → shadow.left + instances_of x.load s.instances ≡ x.restarts + 1
 
--- the cells of an object: as many as its struct has, each number within its width, and 0 for an `RRef`
+-- the cells of an object: as many as its struct has, each number within its width, and 0 for an
+-- `RRef`
 abbrev pub cell_fits : Kind → ℕ → Bool
 cell_fits (kind.Num w) n = number_suits (kind.Num w) n
 cell_fits _ n = n == 0
@@ -193,14 +201,16 @@ cell_fits _ n = n == 0
 abbrev pub cells_fit : List Kind → List ℕ → Bool
 cells_fit kinds cells = each_fits cell_fits kinds cells
 
--- Cells fit their widths, at most 65,536 objects are live, and no number in use is as large as the next one.
+-- Cells fit their widths, at most 65,536 objects are live, and no number in use is as large as the
+-- next one.
 pub record NumbersFit (L : LoadRows) (s : State) : Type 0 where
   pub cells : (x : Object) → object_of s x.number ≡ Some x → cells_fit (kinds_of L (Some x)) x.cells ≡ true
   pub few : length s.objects ≤ 65536
   pub objects : (x : Object) → object_of s x.number ≡ Some x → (0 < x.number) × (x.number < s.next_object)
   pub owners : (o i : ℕ) → IsRoot s o (owner.Instance i) → (0 < i) × (i ≤ length s.instances)
 
--- An instance is of a load, with as many words and slots as its domain says. The device has as many blocks as the plan says, each of 64 words.
+-- An instance is of a load, with as many words and slots as its domain says. The device has as many
+-- blocks as the plan says, each of 64 words.
 pub record SizesFit (L : LoadRows) (s : State) : Type 0 where
   pub load : (i : ℕ) (instance : Instance) → row s.instances i ≡ Some instance → (0 < instance.load) × (instance.load ≤ length L.loads)
   pub words : (i : ℕ) (instance : Instance) → row s.instances i ≡ Some instance → length instance.words ≡ words_of (domain_of_load L instance.load).lines
@@ -208,8 +218,8 @@ pub record SizesFit (L : LoadRows) (s : State) : Type 0 where
   pub blocks : length s.blocks ≡ L.blocks
   pub block : (b : ℕ) (cells : List ℕ) → slice_get s.blocks b ≡ Some cells → (length cells ≡ 64) × (list_all (fits_width width.W64) cells ≡ true)
 
--- Each client has a stack and a thread, each shadow a row; a stack has at most 31 frames above its client, and none where the client is done;
--- objects stand by rising number.
+-- Each client has a stack and a thread, each shadow a row; a stack has at most 31 frames above its
+-- client, and none where the client is done; objects stand by rising number.
 pub record LaidOut (L : LoadRows) (s : State) : Type 0 where
   pub stacks : length s.stacks ≡ length L.clients
   pub threads : length s.threads ≡ length L.clients

@@ -36,7 +36,8 @@ pub record Object : Type 0 where
 abbrev pub StackFrame : Type 0
 StackFrame = Frame Action
 
--- a client's thread beside its stack: its fuel, the next command's place in the script, what the script's names hold
+-- a client's thread beside its stack: its fuel, the next command's place in the script, what the
+-- script's names hold
 pub record Thread : Type 0 where
   pub fuel : ℕ
   pub place : ℕ
@@ -48,8 +49,9 @@ pub record Shadow : Type 0 where
   pub current : ℕ
   pub left : ℕ
 
--- Instances, clients and shadows stand in the order of their numbers, objects by rising number, the frames of a stack the
--- lowest first. The frame of the client itself lies below them and isn't listed.
+-- Instances, clients and shadows stand in the order of their numbers, objects by rising number, the
+-- frames of a stack the lowest first. The frame of the client itself lies below them and isn't
+-- listed.
 pub record State : Type 0 where
   pub instances : List Instance
   pub objects : List Object
@@ -91,7 +93,8 @@ with_stack s t frames = record s { stacks = slice_set s.stacks (t - 1) frames }
 abbrev pub with_thread : State → ℕ → Thread → State
 with_thread s t thread = record s { threads = slice_set s.threads (t - 1) thread }
 
--- the start: one live instance of each load, its words 0 and its slots empty; each client before its first command
+-- the start: one live instance of each load, its words 0 and its slots empty; each client before
+-- its first command
 abbrev pub first_instance : LoadRows → ℕ → LoadRow → Instance
 first_instance L k l = record {
   load = k;

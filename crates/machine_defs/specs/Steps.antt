@@ -10,7 +10,8 @@ use Rattle.machine_defs.specs.ObjectRows.{Makes, Drops, Sets, PutsWord, Takes, P
 use Rattle.machine_defs.specs.Entries.{thread_of}
 use Rattle.machine_defs.specs.Calling.{is_enabled}
 
--- the row of an entry: when it is made, and what the state becomes before objects are freed. A `free` is no row: it follows one.
+-- the row of an entry: when it is made, and what the state becomes before objects are freed. A
+-- `free` is no row: it follows one.
 abbrev pub Row : LoadRows → State → Entry → State → Type 0
 Row L s (entry.Call t c x i m args) z = Calls L s t c x i m args z
 Row L s (entry.Refuse t c why x m args) z = Refuses L s t c why x m args z
@@ -40,7 +41,8 @@ pub record Turn : Type 0 where
   pub entry : Entry
   pub frees : List ℕ
 
--- A step: the entry's thread is enabled, the row holds, and each object that nobody can reach then is freed.
+-- A step: the entry's thread is enabled, the row holds, and each object that nobody can reach then
+-- is freed.
 pub record Step (L : LoadRows) (s : State) (turn : Turn) (z : State) : Type 0 where
   pub made : State
   pub enabled : is_enabled L s (thread_of turn.entry) ≡ true

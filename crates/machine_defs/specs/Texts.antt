@@ -129,7 +129,8 @@ entry_text L e = line (client_text (thread_of e) ++ act_text L e)
 abbrev pub history_text : LoadRows → List Entry → List ℕ
 history_text L H = flat_map (entry_text L) H
 
--- what a history tells of a thread so far: how many of its calls are open, and how many commands it has begun
+-- what a history tells of a thread so far: how many of its calls are open, and how many commands it
+-- has begun
 pub record Tally : Type 0 where
   pub calls : ℕ
   pub commands : ℕ
@@ -171,7 +172,8 @@ tally t H = tally_from t no_tally H
 abbrev pub reply_line : ℕ → ℕ → List ℕ → List ℕ → List ℕ
 reply_line t k says rest = line (client_text t ++ word (decimal k) (word says rest))
 
--- the reply that an entry is, where it ends a command that has one; y is what was told of its thread before it
+-- the reply that an entry is, where it ends a command that has one; y is what was told of its
+-- thread before it
 abbrev pub reply_text : LoadRows → Tally → Entry → List ℕ
 reply_text L y (entry.Ret t c results) = if y.calls == 1 then reply_line t y.commands (codes "ok") (values_text L results) else []
 reply_text L y (entry.Unwound t c) = if y.calls == 1 then reply_line t y.commands (codes "error") (word (decimal 2) []) else []

@@ -22,7 +22,8 @@ Untouched us (entry.Put t i slot o) = ActsItself us t i × (slot_at us i slot �
 Untouched us (entry.Take t i slot o) = ActsItself us t i × (slot_at us i slot ≡ Some o)
 Untouched us _ = Unit {0}
 
--- The words of an instance are the last values that were put into them, or 0, and its slots have what was put into them and not taken.
+-- The words of an instance are the last values that were put into them, or 0, and its slots have
+-- what was put into them and not taken.
 pub record AreContents (L : LoadRows) (us : List Turn) (s : State) : Type 0 where
   pub words : (i at v : ℕ) → slice_get (words s i) at ≡ Some v → v ≡ word_at us i at
   pub slots : (i k : ℕ) (slot : List ℕ) → IsSlot L s i k slot → in_slot s i k ≡ slot_at us i slot

@@ -21,8 +21,9 @@ use Rattle.machine_defs.specs.Instructions.{Settled, Nowhere, Before, settle}
 use Rattle.machine_defs.specs.Seen.{domain_of_instance, seen}
 use Rattle.rl_defs.specs.Rows.{row, commands_of}
 
--- The thread has no step of this kind; its script has ended; its command uses a name that isn't bound; it has a command to do, with
--- all names bound; or its top frame would make an action, and stands before it with this fuel, line and registers.
+-- The thread has no step of this kind; its script has ended; its command uses a name that isn't
+-- bound; it has a command to do, with all names bound; or its top frame would make an action, and
+-- stands before it with this fuel, line and registers.
 pub data Want : Type 0 where
   Nothing : Want
   Finishes : Want
@@ -55,7 +56,8 @@ makes (command.Let name ty values) = true
 makes (command.Text name ty bytes) = true
 makes _ = false
 
--- a command is skipped where a name that it uses isn't bound, or where it makes an object and 65,536 are live
+-- a command is skipped where a name that it uses isn't bound, or where it makes an object and
+-- 65,536 are live
 abbrev pub can_do : State → Names → Command → Bool
 can_do s names c = list_all (λ k. is_some (name_held names k)) (used c) && not (makes c && nat_le 65536 (length s.objects))
 
@@ -81,12 +83,14 @@ abbrev pub by_command : State → Thread → Option Command → Want
 by_command s thread None = Finishes
 by_command s thread (Some c) = if can_do s thread.names c then Commands c else Skips (thread.place + 1)
 
--- a code frame would make the first action or trap that its lines come to, and stands before it then
+-- a code frame would make the first action or trap that its lines come to, and stands before it
+-- then
 abbrev pub settled : StackFrame → Settled → Want
 settled f Nowhere = Nothing
 settled f (Before act fuel stand) = Acts act fuel (record f { body = body.Code stand.at stand.regs })
 
--- a native frame would make the action that it has chosen; but a `new` traps where 65,536 objects are live
+-- a native frame would make the action that it has chosen; but a `new` traps where 65,536 objects
+-- are live
 abbrev pub unless_full : ℕ → Action → Action
 unless_full live (action.New ty) = if nat_lt live 65536 then action.New ty else action.Trap cause.HeapFull
 unless_full live act = act

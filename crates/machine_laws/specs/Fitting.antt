@@ -1,5 +1,5 @@
--- What fits in a state beside its ledger: frames stand where their code is, objects and slots are of their types, and script names hold what
--- their commands give.
+-- What fits in a state beside its ledger: frames stand where their code is, objects and slots are
+-- of their types, and script names hold what their commands give.
 use Rattle.std.specs.Prelude.{◌≡◌, ℕ, ◌<◌, ◌≤◌, true, false, List, [], ◌∷◌, length, Option, Some, None, slice_get}
 use Rattle.std.specs.List.{list_all}
 use Rattle.rl_defs.specs.declared.values.Value.{Value}
@@ -38,13 +38,15 @@ use Rattle.machine_defs.specs.Sound.{args_stand, cells_fit}
 use Rattle.rl_defs.specs.Rows.{BindsName}
 use Rattle.machine_laws.specs.Registers.{Parted}
 
--- Code that is on top stands at a line of the function for its method, with registers of the kinds there.
+-- Code that is on top stands at a line of the function for its method, with registers of the kinds
+-- there.
 pub record CodeRuns (L : LoadRows) (s : State) (f : StackFrame) (at : ℕ) (regs : List (Option Value)) : Type 0 where
   pub stands : FitsStand (types_of L s) (domain_of_instance L s f.instance) (record { at = at; regs = regs })
   pub parted : Parted f.lent (kinds_at (domain_of_instance L s f.instance) at) regs
   pub method : method_at (domain_of_instance L s f.instance) at ≡ method_of L f.target f.method
 
--- Code that waits stands at its call of the method that the frame above it is for, without the objects that it moved.
+-- Code that waits stands at its call of the method that the frame above it is for, without the
+-- objects that it moved.
 pub record CodeWaits (L : LoadRows) (s : State) (f : StackFrame) (at : ℕ) (regs : List (Option Value)) (above : StackFrame) : Type 0 where
   pub target : Register
   pub name : List ℕ
@@ -65,7 +67,8 @@ BodyFits L s f (g ∷ above) (body.Code at regs) = (is_native (domain_of_instanc
 BodyFits L s f [] (body.Native held act) = (is_native (domain_of_instance L s f.instance).lines ≡ true) × CanChoose L s f held act
 BodyFits L s f (g ∷ above) (body.Native held act) = (is_native (domain_of_instance L s f.instance).lines ≡ true) × (act ≡ action.Call g.target g.method g.args)
 
--- the call of a frame is of a target and one of its methods, with arguments of the kinds of its parameters
+-- the call of a frame is of a target and one of its methods, with arguments of the kinds of its
+-- parameters
 pub record CallFits (L : LoadRows) (s : State) (f : StackFrame) : Type 0 where
   pub target : is_target L f.target ≡ true
   pub method : MethodRow
@@ -73,8 +76,8 @@ pub record CallFits (L : LoadRows) (s : State) (f : StackFrame) : Type 0 where
   pub args : args_stand (types_of L s) method.params f.args ≡ true
   pub lent : f.lent ≡ lent_of f.args
 
--- an object has as many cells as its struct, each with a number within its width, or 0 for an `RRef`; what hangs in a cell is of the cell's
--- struct
+-- an object has as many cells as its struct, each with a number within its width, or 0 for an
+-- `RRef`; what hangs in a cell is of the cell's struct
 pub record ObjectFits (L : LoadRows) (s : State) (x : Object) : Type 0 where
   pub cells : length x.cells ≡ length (kinds_of L (Some x))
   pub numbers : cells_fit (kinds_of L (Some x)) x.cells ≡ true
@@ -91,7 +94,8 @@ pub record InstanceFits (L : LoadRows) (i : Instance) : Type 0 where
 abbrev pub BindsLater : LoadRows → ℕ → ℕ → ℕ → Type 0
 BindsLater L t place k = (at n : ℕ) × (next : Command) × (place ≤ at) × (slice_get (commands_of (row L.clients t)) at ≡ Some next) × (slice_get (bound_by next) n ≡ Some k)
 
--- a script's names hold values of the kinds that their commands give, and those of commands still to come hold nothing
+-- a script's names hold values of the kinds that their commands give, and those of commands still
+-- to come hold nothing
 pub record NamesFit (L : LoadRows) (s : State) (t : ℕ) (thread : Thread) : Type 0 where
   pub kinds : (k : ℕ) (v : Value) → name_held thread.names k ≡ Some v → (of : Kind) × BindsName L t k of × (value_suits (types_of L s) of v ≡ true)
   pub later : (k : ℕ) → BindsLater L t thread.place k → name_held thread.names k ≡ None

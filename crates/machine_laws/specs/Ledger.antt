@@ -1,5 +1,5 @@
--- The ledger of a state: who runs, who owns and who has borrowed, as functions of numbers. The laws of ownership are proved over it: it has no
--- registers, no lines and no script.
+-- The ledger of a state: who runs, who owns and who has borrowed, as functions of numbers. The laws
+-- of ownership are proved over it: it has no registers, no lines and no script.
 use Rattle.std.specs.Prelude.{ℕ, zero, suc, ◌++◌, if◌then◌else◌, ◌+◌, ◌-◌, ◌==◌, Bool, true, false, cond, not, ◌&&◌, List, [], ◌∷◌, Option, Some, None}
 use Rattle.machine_defs.specs.declared.values.Arg.{Arg}
 use Rattle.machine_defs.specs.declared.values.Owner.{Owner}
@@ -18,8 +18,8 @@ abbrev pub passing : (ℕ → Bool) → ℕ → List ℕ
 passing passes zero = []
 passing passes (suc n) = passing passes n ++ (if passes (suc n) then suc n ∷ [] else [])
 
--- a frame: who acts in it, its call, and the objects that it has of its own. The client's own frame is the lowest of its stack; its objects
--- are those of the script's names
+-- a frame: who acts in it, its call, and the objects that it has of its own. The client's own frame
+-- is the lowest of its stack; its objects are those of the script's names
 pub record LedgerFrame : Type 0 where
   pub party : Owner
   pub call : ℕ
@@ -29,8 +29,9 @@ pub record LedgerFrame : Type 0 where
   pub lent : List ℕ
   pub own : List ℕ
 
--- Instances, objects, clients and targets by their numbers; the frames of a stack with the newest first. The load of an instance; whether
--- one was opened and lives; where an object that is in the heap is.
+-- Instances, objects, clients and targets by their numbers; the frames of a stack with the newest
+-- first. The load of an instance; whether one was opened and lives; where an object that is in the
+-- heap is.
 pub record Ledger : Type 0 where
   pub loads : ℕ → ℕ
   pub live : ℕ → Bool

@@ -72,7 +72,8 @@ pub record IsOutranked (L : LoadRows) (s : Ledger) (wanted : ℕ) (fs : List Led
 abbrev pub callee : ℕ → ℕ → ℕ → ℕ → List Arg → LedgerFrame
 callee c x i m args = record { party = owner.Instance i; call = c; target = x; method = m; args = args; lent = lent_of args; own = moved_of args }
 
--- what a call asks of its arguments: what it moves is the frame's own, and what it lends is its own or lent to it
+-- what a call asks of its arguments: what it moves is the frame's own, and what it lends is its own
+-- or lent to it
 pub record MayPass (f : LedgerFrame) (args : List Arg) (own : List ℕ) : Type 0 where
   pub moved : Exchanged f.own (moved_of args) [] own
   pub lent : (o : ℕ) → 0 < count o (lent_of args) → (0 < count o own) ⊎ (0 < count o f.lent)

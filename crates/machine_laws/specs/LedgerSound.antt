@@ -65,7 +65,8 @@ pub record OwnedIn (n : ℕ) (live : ℕ → Bool) (stack : ℕ → List LedgerF
 abbrev pub Owned : LoadRows → Ledger → Type 0
 Owned L s = OwnedIn (length L.clients) s.live s.stack s.seat s.slots s.next_object
 
--- the frames of client t: above its own, each is of an opened instance of its target's load, and call numbers fall downwards
+-- the frames of client t: above its own, each is of an opened instance of its target's load, and
+-- call numbers fall downwards
 abbrev pub Grounded : LoadRows → (ℕ → ℕ) → ℕ → ℕ → ℕ → List LedgerFrame → Type 0
 Grounded L loads next_instance next_call t [] = ⊥
 Grounded L loads next_instance next_call t (f ∷ []) = (f.party ≡ owner.Client t) × (f.lent ≡ []) × (f.call < next_call)
@@ -90,7 +91,8 @@ pub record PlacedIn (L : LoadRows) (loads : ℕ → ℕ) (live : ℕ → Bool) (
 abbrev pub Placed : LoadRows → Ledger → Type 0
 Placed L s = PlacedIn L s.loads s.live s.stack s.seat s.current s.next_instance s.next_object s.next_call
 
--- What the laws ask of a load: its targets are of its loads, and the slots of a domain have names of their own.
+-- What the laws ask of a load: its targets are of its loads, and the slots of a domain have names
+-- of their own.
 pub record IsPlan (L : LoadRows) : Type 0 where
   pub targets : (x : ℕ) → load_of_target L x ≤ length L.loads
   pub some_load : (x : ℕ) → is_target L x ≡ true → 0 < load_of_target L x

@@ -23,7 +23,8 @@ use Rattle.machine_defs.specs.Sound.{own_of_body}
 abbrev pub own : List ℕ → Registers → List ℕ
 own lent regs = own_of_body lent (body.Code 0 regs)
 
--- what registers known to hold own objects have isn't lent to the frame, and what those known to hold lent ones have is
+-- what registers known to hold own objects have isn't lent to the frame, and what those known to
+-- hold lent ones have is
 pub record Parted (loans : List ℕ) (kinds : Kinds) (regs : Registers) : Type 0 where
   pub own : (r ty o : ℕ) → slice_index_or kinds r held.Empty ≡ held.Own ty → slice_index_or regs r None ≡ Some (value.Obj o) → has loans o ≡ false
   pub lent : (r ty o : ℕ) → slice_index_or kinds r held.Empty ≡ held.Lent ty → slice_index_or regs r None ≡ Some (value.Obj o) → has loans o ≡ true
@@ -43,7 +44,8 @@ abbrev pub all_pass_as : List Kind → List Arg → Bool
 all_pass_as (k ∷ kinds) (a ∷ args) = is_passed_as k a && all_pass_as kinds args
 all_pass_as _ _ = true
 
--- the objects that an action gives away; those that have to be its frame's own, and stay so; and those that have to be its own or lent to it
+-- the objects that an action gives away; those that have to be its frame's own, and stay so; and
+-- those that have to be its own or lent to it
 abbrev pub given_away : Action → List ℕ
 given_away (action.Drop o) = o ∷ []
 given_away (action.Put slot o) = o ∷ []

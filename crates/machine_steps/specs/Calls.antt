@@ -38,7 +38,8 @@ pub record IsDeadCall (w : Kept) (t c : ℕ) (frame : StackFrame) : Type 0 where
   pub dead : is_live w.state frame.instance ≡ false
   pub call : c ≡ frame.call
 
--- the call of client t's dead frame may be issued again through this shadow, in this instance, which lives
+-- the call of client t's dead frame may be issued again through this shadow, in this instance,
+-- which lives
 pub record MayIssueAgain (w : Kept) (t c x i : ℕ) : Type 0 where
   pub frame : StackFrame
   pub of : IsDeadCall w t c frame

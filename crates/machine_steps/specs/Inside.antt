@@ -24,8 +24,8 @@ state_of w = record {
 abbrev pub kept : Inside → Kept
 kept w = record { load = w.load; log = w.log.entries; state = state_of w }
 
--- There is room for the entries of each turn that may begin, a count of frames for each instance at least, and a place for what each client and
--- each instance owns.
+-- There is room for the entries of each turn that may begin, a count of frames for each instance at
+-- least, and a place for what each client and each instance owns.
 pub record HasRooms (w : Inside) : Type 0 where
   pub log : 327680 ≤ length w.log.entries + w.log.spare
   pub counts : length w.instances ≤ w.stacks.instances

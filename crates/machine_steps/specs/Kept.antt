@@ -44,8 +44,8 @@ TurnsAreShort log = (before behind : List Entry) (e : Entry) → log ≡ before 
 abbrev pub IsCodeAlone : LoadRows → Type 0
 IsCodeAlone L = (k : ℕ) → is_native (domain_of_load L k).lines ≡ false
 
--- What the heap keeps beside an object is what the state says of it: how often it is lent, and whether others may hang in it. None is
--- listed for the sweep.
+-- What the heap keeps beside an object is what the state says of it: how often it is lent, and
+-- whether others may hang in it. None is listed for the sweep.
 pub record AgreesAt (L : LoadRows) (s : State) (o : ℕ) (r : HeapRow) : Type 0 where
   pub lent : r.loans ≡ loans s o
   pub nests : r.nests ≡ list_any is_rref (kinds_of L (Some r.object))

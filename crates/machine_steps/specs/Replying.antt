@@ -22,13 +22,15 @@ actor_in stacks t = option_map_or (λ f. owner.Instance f.instance) (top (stack_
 abbrev pub told_frame : LoadRows → List Instance → Answer → StackFrame → StackFrame
 told_frame L instances a f = with_body f (code_at (answered_code (domain_in L instances f.instance) (stand_of f.body) a))
 
--- the stacks, where client t's top frame has its answer. A frame of an instance that has ended gets nothing.
+-- the stacks, where client t's top frame has its answer. A frame of an instance that has ended gets
+-- nothing.
 abbrev pub told_stacks : LoadRows → List Instance → ℕ → Answer → List (List StackFrame) → Option StackFrame → List (List StackFrame)
 told_stacks L instances t a stacks None = stacks
 told_stacks L instances t a stacks (Some f) =
     if lives (row instances f.instance) then with_stack_of stacks t (below_top (stack_of stacks t) ++ told_frame L instances a f ∷ []) else stacks
 
--- the threads, where client t that has no frame is done with its command: the command's names hold the results
+-- the threads, where client t that has no frame is done with its command: the command's names hold
+-- the results
 abbrev pub told_threads : LoadRows → ℕ → Answer → List Thread → Option StackFrame → List Thread
 told_threads L t a threads None = change_row threads t (λ x. after_command L t x (results_in a)) (row threads t)
 told_threads L t a threads (Some f) = threads

@@ -21,8 +21,8 @@ pub record WentBy (old new : Kept) (t : ℕ) : Type 0 where
   pub went : Went old new entry
   pub short : length old.log < 262144
 
--- Client t isn't done and isn't enabled: its next step would enter the instance of a target, and h is the least other client that has a frame
--- in it.
+-- Client t isn't done and isn't enabled: its next step would enter the instance of a target, and h
+-- is the least other client that has a frame in it.
 pub record WaitsFor (w : Kept) (t h : ℕ) : Type 0 where
   pub undone : is_undone (row w.state.threads t) ≡ true
   pub disabled : is_enabled w.load w.state t ≡ false
@@ -39,7 +39,8 @@ keeps_more (Acts (action.New ty) fuel f) = true
 keeps_more (Acts (action.Set o at values) fuel f) = true
 keeps_more _ = false
 
--- Client t's next step takes memory: it makes an object, sets or shows cells, or loads an instance again.
+-- Client t's next step takes memory: it makes an object, sets or shows cells, or loads an instance
+-- again.
 pub data TakesMemory (w : Kept) (t : ℕ) : Type 0 where
   Keeps : keeps_more (wanted w.load w.state t) ≡ true → TakesMemory w t
   Loads : (x : ℕ) → Needs w.load w.state t x → is_live w.state (current w.load w.state x) ≡ false → TakesMemory w t

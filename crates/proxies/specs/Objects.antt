@@ -63,7 +63,8 @@ abbrev pub is_let_go_at : HeapRows → List Instance → List ℕ → Placement 
 is_let_go_at rows instances lent (Root w) = false
 is_let_go_at rows instances lent (Hung parent place) = is_let_go rows instances lent parent
 
--- loans end; an object that nobody can reach any more is listed for the sweep, with what hangs in it
+-- loans end; an object that nobody can reach any more is listed for the sweep, with what hangs in
+-- it
 abbrev pub returned_row : HeapRows → List Instance → List ℕ → HeapRow → HeapRow
 returned_row rows instances lent r = record r {
   loans = r.loans - count r.object.number lent;
@@ -79,7 +80,8 @@ pub record IsLent (rows : HeapRows) (lent : List ℕ) (o : ℕ) : Type 0 where
   pub root : IsRoot rows o
   pub counted : count o lent ≤ loans_at rows o
 
--- Results pass to an owner. Where that has ended they are listed for the sweep, with what hangs in them.
+-- Results pass to an owner. Where that has ended they are listed for the sweep, with what hangs in
+-- them.
 abbrev pub handed_back_row : List ℕ → Owner → Bool → HeapRow → HeapRow
 handed_back_row os to ended r = record r {
   object = passed to os r.object;

@@ -1,4 +1,5 @@
--- What comes of the call of a dead frame: it is over, waits, needs a reload first, or is issued again.
+-- What comes of the call of a dead frame: it is over, waits, needs a reload first, or is issued
+-- again.
 use Rattle.std.specs.Prelude.{◌≡◌, ℕ, true, false}
 use Rattle.rl_defs.specs.declared.load.LoadRows.{LoadRows}
 use Rattle.machine_defs.specs.State.{State, StackFrame, is_live, current}

@@ -1,4 +1,5 @@
--- What a call has read and written, by the way in which it ended. Bytes are spoken of where the source and the sink tell them.
+-- What a call has read and written, by the way in which it ended. Bytes are spoken of where the
+-- source and the sink tell them.
 use Rattle.std.specs.Prelude.{◌≡◌, ℕ, ◌≤◌, ◌⊎◌, List, ◌++◌, length, codes, Option, true}
 use Rattle.std.specs.Fmt.{decimal}
 use Rattle.std.specs.Io.KnownBytes.{Appends, Consumes, IsAtEnd}
@@ -18,9 +19,10 @@ use Rattle.redleaf_app.specs.declared.command.Command.{Command}
 use Rattle.redleaf_app.specs.declared.command.Command.TheVariants as command
 use Rattle.redleaf_app.specs.Commands.{words_of}
 
--- A run of a load that is built, with its turns in the order of the order list; none of them began where the history had 262,144 entries
--- or more. Its history tells that each call is answered with its cause, each object has one owner until it is given up once, what is freed
--- has a cause, and words and slots change only by what their own instance does. The text is what it prints.
+-- A run of a load that is built, with its turns in the order of the order list; none of them began
+-- where the history had 262,144 entries or more. Its history tells that each call is answered with
+-- its cause, each object has one owner until it is given up once, what is freed has a cause, and
+-- words and slots change only by what their own instance does. The text is what it prints.
 pub record IsToldRun (L : LoadRows) (H : List Entry) (s : State) (text : List ℕ) : Type 0 where
   pub built : IsCodeAlone L
   pub order : OrderRun L H s
@@ -28,14 +30,16 @@ pub record IsToldRun (L : LoadRows) (H : List Entry) (s : State) (text : List �
   pub laws : TellsLaws L H s
   pub is : text ≡ out_text L H s
 
--- The text is what such a run of the load prints in which every client came to the end of its script.
+-- The text is what such a run of the load prints in which every client came to the end of its
+-- script.
 pub record IsTextOfRun (L : LoadRows) (text : List ℕ) : Type 0 where
   pub entries : List Entry
   pub state : State
   pub whole : WholeRun L entries state
   pub told : IsToldRun L entries state text
 
--- The text is what such a run of the load prints in which not every client came to the end of its script, and the history is full.
+-- The text is what such a run of the load prints in which not every client came to the end of its
+-- script, and the history is full.
 pub record IsTextOfFull (L : LoadRows) (text : List ℕ) : Type 0 where
   pub entries : List Entry
   pub state : State
@@ -54,13 +58,15 @@ pub record IsTextOfNative (L : LoadRows) (text : List ℕ) : Type 0 where
   pub native : is_native (domain_of_load L number).lines ≡ true
   pub is : text ≡ refusal_text 0 99
 
--- `run`: the bytes are accepted, and the text is that of a run of their load to the end of every script.
+-- `run`: the bytes are accepted, and the text is that of a run of their load to the end of every
+-- script.
 pub record WasRun (bytes text : List ℕ) : Type 0 where
   pub load : LoadRows
   pub accepted : Accepted bytes load
   pub run : IsTextOfRun load text
 
--- `run`: the bytes are accepted, and the text is that of a run of their load until the history was full.
+-- `run`: the bytes are accepted, and the text is that of a run of their load until the history was
+-- full.
 pub record WasRunFull (bytes text : List ℕ) : Type 0 where
   pub load : LoadRows
   pub accepted : Accepted bytes load
@@ -78,14 +84,16 @@ pub record IsAccepted (bytes text : List ℕ) : Type 0 where
   pub accepted : Accepted bytes load
   pub is : text ≡ line (codes "accepted")
 
--- This line is the first that a rule refuses, and this the lowest of these rules, in the first phase that refuses a line.
+-- This line is the first that a rule refuses, and this the lowest of these rules, in the first
+-- phase that refuses a line.
 pub record IsRefused (bytes text : List ℕ) : Type 0 where
   pub line : ℕ
   pub rule : ℕ
   pub first : First bytes line rule
   pub is : text ≡ refusal_text line rule
 
--- what a command prints where it does what it is asked for, where it refuses the bytes, and where the history is full before it is done
+-- what a command prints where it does what it is asked for, where it refuses the bytes, and where
+-- the history is full before it is done
 abbrev pub IsAnswer : Command → List ℕ → List ℕ → Type 0
 IsAnswer command.Run bytes text = WasRun bytes text
 IsAnswer command.Check bytes text = IsAccepted bytes text
@@ -98,7 +106,8 @@ abbrev pub IsFull : Command → List ℕ → List ℕ → Type 0
 IsFull command.Run bytes text = WasRunFull bytes text
 IsFull command.Check bytes text = ⊥
 
--- All that the source had left was read, to its end: these bytes, at most so many. The words are of this command.
+-- All that the source had left was read, to its end: these bytes, at most so many. The words are of
+-- this command.
 pub record ReadWhole (limit : ℕ) (words : List (List ℕ)) (left left' : Option (List ℕ)) (of : Command) (bytes : List ℕ) : Type 0 where
   pub asked : words ≡ words_of of
   pub came : Consumes left left' bytes

@@ -11,13 +11,15 @@ shown_byte b = if nat_eq b 9 then 32 else if nat_le 32 b && nat_le b 126 then b 
 abbrev pub shown_text : List ℕ → List ℕ
 shown_text text = map shown_byte (take 120 text)
 
--- the bytes of a line by its number, from 1, where the bytes of the bundle are at hand; the line behind the last one has none
+-- the bytes of a line by its number, from 1, where the bytes of the bundle are at hand; the line
+-- behind the last one has none
 abbrev pub line_of : Option (List ℕ) → ℕ → Option (List ℕ)
 line_of None n = None
 line_of (Some bytes) zero = None
 line_of (Some bytes) (suc n) = slice_get (lines_of bytes) n
 
--- a column points at a byte of the line, or right behind the last one; it is 1 where there is no line
+-- a column points at a byte of the line, or right behind the last one; it is 1 where there is no
+-- line
 abbrev pub PointsInto : Option (List ℕ) → ℕ → Type 0
 PointsInto None column = column ≡ 1
 PointsInto (Some text) column = (1 ≤ column) × (column ≤ length text + 1)
@@ -64,8 +66,9 @@ pub record PutsLine (bytes : Option (List ℕ)) (before after : List ℕ) : Type
 abbrev pub AddsOther : Option (List ℕ) → List ℕ → List ℕ → Type 0
 AddsOther bytes before after = (after ≡ before) ⊎ PutsLine bytes before after
 
--- The text is the note of a refusal: its place, which points into the refused line; the rule; the refused line, as the bundle has it; what
--- was found and expected, which is free here; another line of the bundle, or none; and where the rule is explained.
+-- The text is the note of a refusal: its place, which points into the refused line; the rule; the
+-- refused line, as the bundle has it; what was found and expected, which is free here; another line
+-- of the bundle, or none; and where the rule is explained.
 pub record IsNote (n rule : ℕ) (bytes : Option (List ℕ)) (text : List ℕ) : Type 0 where
   pub column : ℕ
   pub width : ℕ

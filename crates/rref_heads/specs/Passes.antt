@@ -55,7 +55,8 @@ MayLend Vacant = ⊥
 MayLend Busy = ⊥
 MayLend Gone = ⊥
 
--- the view after a claim of h with the payload l: the title is had, and h stands in the claimed list
+-- the view after a claim of h with the payload l: the title is had, and h stands in the claimed
+-- list
 abbrev pub after_claim : ℕ → List ℕ → View → View
 after_claim h l v = record v { titles = titled h (Some l) ∷ v.titles; claimed = h ∷ v.claimed; looks = v.looks + 1; last_head = h; last_word = Vacant; left_word = Busy }
 
@@ -84,7 +85,8 @@ IsPayloadOf Busy o = ⊥
 IsPayloadOf Gone o = o ≡ None
 IsPayloadOf (Live l e to) o = (x : List ℕ) × (o ≡ Some x)
 
--- What closing the table tells of one head: its word, which is what the views of all passes ask for, and its payload.
+-- What closing the table tells of one head: its word, which is what the views of all passes ask
+-- for, and its payload.
 abbrev pub IsClosedHead : List Pass → List HeadWord → List Slot → ℕ → Type 0
 IsClosedHead ps words payloads i = (a : HeadWord) × (o : Slot) × (get_elem? words i ≡ some a) × (get_elem? payloads i ≡ some o) × ((k : Kind) → sum_over k (suc i) ps ≡ due a k) × IsPayloadOf a o
 

@@ -1,4 +1,5 @@
--- The rule and the kinds of step in the terms of the base crate: what each step tells the seat that makes it.
+-- The rule and the kinds of step in the terms of the base crate: what each step tells the seat that
+-- makes it.
 use Rattle.std.specs.Prelude.{◌≡◌, ◌≢◌, ℕ, ◌+◌, ◌-◌, Bool, true, false, List, [], ◌∷◌, Some, None}
 use Rattle.atomic_table.specs.Table.{State, Me, Step}
 use Rattle.machine_defs.specs.declared.heads.HeadWord.{HeadWord}
@@ -33,17 +34,18 @@ on_view f h m = (f h m.0, m.1)
 abbrev pub claims_seat : ℕ → Seated → Seated
 claims_seat h m = (claiming h m.0, (h - 1, None) ∷ m.1)
 
--- What a step tells the seat that makes it: of the step, the seat before, the number that was found (of a store, the number that it left), and the seat
--- after.
+-- What a step tells the seat that makes it: of the step, the seat before, the number that was found
+-- (of a store, the number that it left), and the seat after.
 
--- A compare and exchange looks at the head. Where it found the expected word, it left the other one, and the seat does as `made` says; else it left
--- the word as it was.
+-- A compare and exchange looks at the head. Where it found the expected word, it left the other
+-- one, and the seat does as `made` says; else it left the word as it was.
 abbrev pub Tried : StepKind → (HeadWord → HeadWord) → (ℕ → Seated → Seated) → Step Slot → Seated → ℕ → Seated → Type 0
 Tried kind left made st m n m' = (a : HeadWord) × (n ≡ word_number a) × Fits 64 a
     × (n ≡ st.first → Changes kind a (left a) × (st.second ≡ word_number (left a)) × (m' ≡ made st.word (looked_seat st.word a (left a) m)))
     × (n ≢ st.first → m' ≡ looked_seat st.word a a m)
 
--- A fetch looks at the head and does `f` to the view. Where `frees`, the seat gains the right of release, with the payload, which is as `knows` says.
+-- A fetch looks at the head and does `f` to the view. Where `frees`, the seat gains the right of
+-- release, with the payload, which is as `knows` says.
 abbrev pub Fetched : StepKind → (HeadWord → HeadWord) → (HeadWord → Bool) → (ℕ → View → View) → (View → List ℕ → Type 0) → Step Slot → Seated → ℕ → Seated → Type 0
 Fetched kind left frees f knows st m n m' = (a : HeadWord) × (n ≡ word_number a) × Fits 64 a × Changes kind a (left a)
     × (frees a ≡ true → (l : List ℕ) × knows m.0 l × (m' ≡ (with_right st.word (f st.word (looked st.word a (left a) m.0)), (st.word - 1, Some l) ∷ m.1)))

@@ -9,7 +9,8 @@ use Rattle.machine_defs.specs.declared.values.Owner.TheVariants as owner
 use Rattle.machine_defs.specs.State.{Object, Placement, Root, Hung}
 use Rattle.machine_defs.specs.Objects.{hangs_in, cells_in}
 
--- a live object: itself, how often it is lent, whether others may hang in it, whether the next sweep takes it
+-- a live object: itself, how often it is lent, whether others may hang in it, whether the next
+-- sweep takes it
 pub record HeapRow : Type 0 where
   pub object : Object
   pub loans : ℕ
@@ -25,7 +26,8 @@ pub record Room : Type 0 where
   pub cells : ℕ
   pub nests : Bool
 
--- The objects, the room that is reserved for one more, and how many clients and instances may own objects: those with a number below the count.
+-- The objects, the room that is reserved for one more, and how many clients and instances may own
+-- objects: those with a number below the count.
 pub record HeapValue : Type 0 where
   pub rows : HeapRows
   pub ready : Option Room

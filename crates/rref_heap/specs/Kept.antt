@@ -6,7 +6,8 @@ use Rattle.std.specs.Option.{option_map}
 use Rattle.rref_heap.specs.declared.heap.ObjectRow.{ObjectRow}
 use Rattle.rref_heap.specs.HeapValue.{HeapRow, HeapValue, HeapRows, row_of, MayOwn, IsRoot, owner_at}
 
--- What hangs, hangs in a cell of a root that is there, and leaves with it; or the root is gone and what hung in it leaves.
+-- What hangs, hangs in a cell of a root that is there, and leaves with it; or the root is gone and
+-- what hung in it leaves.
 pub record HangsWell (rows : HeapRows) (r : HeapRow) (parent place : ℕ) : Type 0 where
   pub low : r.nests ≡ false
   pub with_parent : (q : HeapRow) → row_of rows parent ≡ Some q → (q.nests ≡ true) × (place < length q.object.cells) × (r.leaves ≡ q.leaves)

@@ -1,4 +1,5 @@
--- The objects that leave a heap: those that are listed for the sweep, and those that an owner leaves behind.
+-- The objects that leave a heap: those that are listed for the sweep, and those that an owner
+-- leaves behind.
 use Rattle.std.specs.Prelude.{ℕ, ◌==◌, ◌&&◌, ◌||◌, List, map, Option, Some, None, Bool, false, if◌then◌else◌}
 use Rattle.std.specs.List.{filter_map}
 use Rattle.machine_defs.specs.declared.values.Owner.{Owner}

@@ -45,7 +45,8 @@ link_of (Some p) = link_by p.placement p.next p.prev
 abbrev pub links_in : Spots → ℕ → Option Link
 links_in spots n = link_of (at spots n)
 
--- A root leads to the next of its owner, which was linked before it, as its stamp tells. None of them is the one that is out of the links.
+-- A root leads to the next of its owner, which was linked before it, as its stamp tells. None of
+-- them is the one that is out of the links.
 pub record NextOf (L : ℕ → Option Link) (stamp : ℕ → ℕ) (out n : ℕ) (p : Link) : Type 0 where
   pub link : Link
   pub is : L p.next ≡ Some link

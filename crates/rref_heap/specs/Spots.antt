@@ -9,7 +9,8 @@ use Rattle.rref_heap.specs.declared.place.Hanging.{Hanging}
 use Rattle.machine_defs.specs.Objects.{overwritten}
 use Rattle.rref_heap.specs.HeapValue.{HeapRow, HeapRows}
 
--- an object with what hangs in its cells, 0 where nothing does, and the numbers of its neighbors among its owner's roots
+-- an object with what hangs in its cells, 0 where nothing does, and the numbers of its neighbors
+-- among its owner's roots
 pub record Spot : Type 0 where
   pub number : ℕ
   pub ty : ℕ

@@ -18,7 +18,8 @@ abbrev pub Distinct : List ℕ → Type 0
 Distinct [] = ⊤
 Distinct (x ∷ xs) = (has xs x ≡ false) × Distinct xs
 
--- how an object hangs and what hangs in it: its cell, whether it leaves, the numbers of what hangs in its cells, how many cells it has
+-- how an object hangs and what hangs in it: its cell, whether it leaves, the numbers of what hangs
+-- in its cells, how many cells it has
 pub record Cell : Type 0 where
   pub parent : ℕ
   pub place : ℕ
@@ -47,7 +48,8 @@ pub record IsListing (N : ℕ → Option Nest) (numbers : List ℕ) : Type 0 whe
   pub same : (n : ℕ) → has numbers n ≡ leaves_in (N n)
   pub once : Distinct numbers
 
--- What hangs in a cell of an object: the object's cell names it, and it leaves with the object. Where the object is gone, it leaves.
+-- What hangs in a cell of an object: the object's cell names it, and it leaves with the object.
+-- Where the object is gone, it leaves.
 pub record Hanged (N : ℕ → Option Nest) (c : Cell) (n : ℕ) (p : Nest) : Type 0 where
   pub low : p.below ≡ []
   pub in_parent : (q : Nest) → N c.parent ≡ Some q → (slice_index_or q.below c.place 0 ≡ n) × (c.place < length q.below) × (p.leaves ≡ q.leaves)
@@ -95,7 +97,8 @@ abbrev pub if_below : ℕ → Option Spot → Option Spot
 if_below o None = None
 if_below o (Some p) = Some (if hangs_below o p.placement then to_leave p else p)
 
--- A store has become another, which is seen as these rows, with the same room and at most as many objects.
+-- A store has become another, which is seen as these rows, with the same room and at most as many
+-- objects.
 pub record Becomes (s z : Store) (rows : HeapRows) : Type 0 where
   pub store : IsStore z
   pub seen : rows_in z.places.spots ≡ rows
@@ -105,7 +108,8 @@ pub record Becomes (s z : Store) (rows : HeapRows) : Type 0 where
   pub fewer : z.live ≤ s.live
   pub room : length z.listing.numbers + z.listing.spare ≡ length s.listing.numbers + s.listing.spare
 
--- The object that is listed last has been taken out, with its number. Where none is listed, all is as before.
+-- The object that is listed last has been taken out, with its number. Where none is listed, all is
+-- as before.
 abbrev pub TakesLast : Store → Store → Option ℕ → Type 0
 TakesLast s z None = (z ≡ s) × (s.listing.numbers ≡ [])
 TakesLast s z (Some o) = Becomes s z (map (unless o) (rows_in s.places.spots)) × (s.listing.numbers ≡ z.listing.numbers ++ o ∷ [])

@@ -1,4 +1,5 @@
--- What one step counts, lends and frees, by the kind of its entry. The state that its row makes is the one before objects are freed.
+-- What one step counts, lends and frees, by the kind of its entry. The state that its row makes is
+-- the one before objects are freed.
 use Rattle.std.specs.Prelude.{◌≡◌, ℕ, ◌+◌, ◌≤◌, ◌==◌, ◌&&◌, ◌++◌, Bool, true, false, List, [], ◌∷◌, length, map, filter, not, slice_get, Option, Some, None}
 use Rattle.machine_defs.specs.declared.values.Owner.{Owner}
 use Rattle.machine_defs.specs.declared.values.Owner.TheVariants as owner
@@ -47,7 +48,8 @@ KillsAgain s _ = ⊥
 abbrev pub KillsAgainFreeNothing : Type 0
 KillsAgainFreeNothing = OfRows (λ s e made. KillsAgain s e → FreesNothing made)
 
--- one step uses one number at most of calls, of objects and of instances; the other lists keep their lengths
+-- one step uses one number at most of calls, of objects and of instances; the other lists keep
+-- their lengths
 pub record CountsUp (s made : State) : Type 0 where
   pub calls : made.next_call ≤ s.next_call + 1
   pub objects : made.next_object ≤ s.next_object + 1
@@ -78,7 +80,8 @@ pub record FewObjects (made : State) : Type 0 where
 abbrev pub ObjectsStayFew : Type 0
 ObjectsStayFew = OfRows (λ s e made. FewObjects made)
 
--- The loans of an object behind an entry: a call adds those of its arguments, the end of a frame takes that frame's, and no other entry changes them.
+-- The loans of an object behind an entry: a call adds those of its arguments, the end of a frame
+-- takes that frame's, and no other entry changes them.
 abbrev pub LoansFall : State → ℕ → State → ℕ → Type 0
 LoansFall s t made o = (f : StackFrame) → top (stack s t) ≡ Some f → loans made o + count o f.lent ≡ loans s o
 
@@ -118,7 +121,8 @@ looks_at (entry.DevPut t block o) = o ∷ []
 looks_at (entry.Show t o values) = o ∷ []
 looks_at _ = []
 
--- What an entry changes is a root of who acts, and nobody has borrowed it; what it reads is somebody's root.
+-- What an entry changes is a root of who acts, and nobody has borrowed it; what it reads is
+-- somebody's root.
 pub record NamesRoots (s : State) (e : Entry) : Type 0 where
   pub changed : (o : ℕ) → has (changes e) o ≡ true → IsRoot s o (acting s (thread_of e)) × (loans s o ≡ 0)
   pub seen : (o : ℕ) → has (looks_at e) o ≡ true → (w : Owner) × IsRoot s o w
@@ -151,7 +155,8 @@ abbrev pub is_unlent_root : State → Owner → Option Object → Bool
 is_unlent_root s w None = false
 is_unlent_root s w (Some x) = is_unlent_at s w x.number x.placement
 
--- An object goes with an owner that ends where it is a root of it that nobody has borrowed. What hangs goes with its root.
+-- An object goes with an owner that ends where it is a root of it that nobody has borrowed. What
+-- hangs goes with its root.
 abbrev pub goes_at : State → Owner → ℕ → Placement → Bool
 goes_at s w o (Root v) = is_unlent_at s w o (Root v)
 goes_at s w o (Hung parent place) = is_unlent_root s w (object_of s parent)
@@ -188,7 +193,8 @@ pub record GoesWithParent (made : State) (x : Object) (parent : ℕ) : Type 0 wh
   pub root : IsRoot made parent owner
   pub same : is_doomed made x ≡ is_doomed made root.0
 
--- What the end of a frame frees: roots of owners that have ended, which nobody has borrowed any more. They are among these objects.
+-- What the end of a frame frees: roots of owners that have ended, which nobody has borrowed any
+-- more. They are among these objects.
 pub record FreesAmong (made : State) (os : List ℕ) : Type 0 where
   pub roots : (x : Object) (w : Owner) → object_of made x.number ≡ Some x → x.placement ≡ Root w → is_doomed made x ≡ (has_ended made w && (loans made x.number == 0))
   pub others : (x : Object) (w : Owner) → object_of made x.number ≡ Some x → x.placement ≡ Root w → has os x.number ≡ false → is_doomed made x ≡ false

@@ -17,7 +17,8 @@ count_in_all i (frames ∷ stacks) = count_in i frames + count_in_all i stacks
 abbrev pub AreCounted : {N : Type 0} → List ℕ → List (List (Frame N)) → Type 0
 AreCounted counts stacks = (i : ℕ) → count_in_all i stacks ≡ unwrap_or (row counts i) 0
 
--- The stacks beside their counts: none is higher than it may be, and no more clients are there than have numbers.
+-- The stacks beside their counts: none is higher than it may be, and no more clients are there than
+-- have numbers.
 pub record IsLaid {N : Type 0} (counts : List ℕ) (stacks : List (List (Frame N))) : Type 0 where
   pub counted : AreCounted counts stacks
   pub heights : All (λ frames. length frames ≤ 31) stacks

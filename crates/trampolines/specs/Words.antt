@@ -30,7 +30,8 @@ stack_of stacks t = frames_of (row stacks t)
 abbrev pub with_stack_of : {N : Type 0} → List (List (Frame N)) → ℕ → List (Frame N) → List (List (Frame N))
 with_stack_of stacks t frames = slice_set stacks (t - 1) frames
 
--- a stack has a frame in the instance; a client other than `but` has one, where the stacks are those from client k on
+-- a stack has a frame in the instance; a client other than `but` has one, where the stacks are
+-- those from client k on
 abbrev pub is_in : {N : Type 0} → ℕ → List (Frame N) → Bool
 is_in i frames = list_any (λ f. f.instance == i) frames
 

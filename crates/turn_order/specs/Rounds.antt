@@ -23,7 +23,8 @@ place_round xs place (Some step) = Some ((place + step) % length xs)
 abbrev pub next_place : List ℕ → List Bool → ℕ → Option ℕ
 next_place order enabled from = place_round order from (position (is_on enabled) (round_from order from))
 
--- From a place of the order list on, the first clients aren't enabled, so many of them, and the one behind them is.
+-- From a place of the order list on, the first clients aren't enabled, so many of them, and the one
+-- behind them is.
 pub record ComesNext (L : LoadRows) (s : State) (place step : ℕ) : Type 0 where
   pub within : place ≤ length (order_of L)
   pub near : step < length (order_of L)

@@ -20,7 +20,8 @@ use Rattle.worked_runs.specs.Parts.{u64, tables, has_methods, r0, r1, domain, lo
 abbrev pub struct_block : StructRow
 struct_block = record { name = codes "Block"; flat = replicate 64 u64 }
 
--- The interface of a block device, whose three methods are all `repeatable`, or all just a `method`. A block stands first of the structs.
+-- The interface of a block device, whose three methods are all `repeatable`, or all just a
+-- `method`. A block stands first of the structs.
 abbrev pub block_device : (List ℕ → List Kind → List Kind → MethodRow) → TraitRow
 block_device row = has_methods (codes "BDev")
     (row (codes "size") [] (u64 ∷ [])
@@ -51,7 +52,8 @@ driver of = domain of
     ∷ form.Close
     ∷ [])
 
--- The driver is load 1, with a device of 4 blocks. Its shadow `disk`, with one restart, is target 2.
+-- The driver is load 1, with a device of 4 blocks. Its shadow `disk`, with one restart, is target
+-- 2.
 abbrev pub driver_load : Tables → List ClientRow → List ℕ → LoadRows
 driver_load of clients order = record (plain_load of (driver of ∷ []) (load_of (codes "drv") 0 [] ∷ []) clients) {
   shadows = record { name = codes "disk"; load = 1; restarts = 1 } ∷ [];

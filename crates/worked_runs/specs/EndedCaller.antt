@@ -1,5 +1,5 @@
--- A worked run: a domain calls another, and is killed while that one runs. The object that comes back is freed, since its caller has
--- ended, and the caller's own call ends with an error.
+-- A worked run: a domain calls another, and is killed while that one runs. The object that comes
+-- back is freed, since its caller has ended, and the caller's own call ends with an error.
 use Rattle.std.specs.Prelude.{true, false, List, [], ◌∷◌, codes}
 use Rattle.rl_defs.specs.declared.values.Value.TheVariants as value
 use Rattle.machine_defs.specs.declared.values.Owner.TheVariants as owner

@@ -1,4 +1,5 @@
--- A worked run: a domain calls itself until the stack is full. The 32nd call is refused, and all the others return.
+-- A worked run: a domain calls itself until the stack is full. The 32nd call is refused, and all
+-- the others return.
 use Rattle.std.specs.Prelude.{ℕ, ◌-◌, true, List, [], ◌∷◌, ◌++◌, map, codes}
 use Rattle.std.specs.List.{range_with_len}
 use Rattle.rl_defs.specs.declared.code.CallArg.TheVariants as passes

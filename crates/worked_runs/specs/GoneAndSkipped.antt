@@ -1,5 +1,5 @@
--- A worked run: a client kills a domain and calls it with an object. The call is refused, the object is gone with it, and the command that
--- uses the call's result is skipped.
+-- A worked run: a client kills a domain and calls it with an object. The call is refused, the
+-- object is gone with it, and the command that uses the call's result is skipped.
 use Rattle.std.specs.Prelude.{false, true, List, [], ◌∷◌, None, codes}
 use Rattle.machine_defs.specs.declared.values.Arg.TheVariants as arg
 use Rattle.machine_defs.specs.declared.values.Owner.TheVariants as owner

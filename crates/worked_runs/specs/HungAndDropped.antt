@@ -1,4 +1,5 @@
--- A worked run: an object that hangs in another one is shown below it, and is freed when that one is dropped.
+-- A worked run: an object that hangs in another one is shown below it, and is freed when that one
+-- is dropped.
 use Rattle.std.specs.Prelude.{true, List, [], ◌∷◌, ◌++◌, None, codes}
 use Rattle.rl_defs.specs.declared.code.DomainLine.TheVariants as line
 use Rattle.rl_defs.specs.declared.code.Instr.{Instr}

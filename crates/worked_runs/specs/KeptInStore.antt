@@ -1,5 +1,6 @@
--- A worked run: a domain keeps a number in a word, in an object that hangs in the one in its slot, and on its device. A later call takes
--- both objects out and drops them, and returns what it reads back from the device.
+-- A worked run: a domain keeps a number in a word, in an object that hangs in the one in its slot,
+-- and on its device. A later call takes both objects out and drops them, and returns what it reads
+-- back from the device.
 use Rattle.std.specs.Prelude.{ℕ, true, List, [], ◌∷◌, replicate, Some, None, codes}
 use Rattle.rl_defs.specs.declared.code.DomainLine.TheVariants as form
 use Rattle.rl_defs.specs.declared.code.Instr.TheVariants as instr
@@ -25,8 +26,9 @@ store_tables = tables
     (record { name = codes "Block"; flat = replicate 64 u64 } ∷ record { name = codes "Folder"; flat = kind.Own 0 ∷ [] } ∷ [])
     (has_methods (codes "Keep") (method (codes "save") (u64 ∷ []) [] ∷ method (codes "open") [] (kind.Own 0 ∷ []) ∷ []) ∷ [])
 
--- `save` of n, at line 4: a block object with n in cell 1 is written to block n, and is put into the slot in a folder; the word is n.
--- `open`, at line 16: both objects go, and an object is returned that holds block n.
+-- `save` of n, at line 4: a block object with n in cell 1 is written to block n, and is put into
+-- the slot in a folder; the word is n. `open`, at line 16: both objects go, and an object is
+-- returned that holds block n.
 abbrev pub store : Domain
 store = domain store_tables
     (form.Domain (codes "Store") (codes "Keep")
@@ -93,7 +95,8 @@ kept_history =
 abbrev pub written : List ℕ
 written = 0 ∷ 3 ∷ replicate 62 0
 
--- where it ends: the client has the third object, block 3 is written, the word is 3, and the slot is empty
+-- where it ends: the client has the third object, block 3 is written, the word is 3, and the slot
+-- is empty
 abbrev pub kept_end : State
 kept_end = record (start kept_load) {
   instances = record (instance_of 1 true) { words = 3 ∷ []; slots = None ∷ [] } ∷ [];

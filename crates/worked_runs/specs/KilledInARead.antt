@@ -1,4 +1,5 @@
--- A worked run: a driver is killed while it reads a block, its object is freed, and behind its shadow the read is issued again.
+-- A worked run: a driver is killed while it reads a block, its object is freed, and behind its
+-- shadow the read is issued again.
 use Rattle.std.specs.Prelude.{true, false, List, [], ◌∷◌, replicate, Some, codes}
 use Rattle.machine_defs.specs.declared.values.Arg.TheVariants as arg
 use Rattle.rl_defs.specs.declared.values.Value.TheVariants as value

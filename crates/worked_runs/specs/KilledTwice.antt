@@ -1,5 +1,6 @@
--- A worked run: two clients are in a driver that a third one kills twice. Behind the driver's shadow, which has one restart, their calls
--- are issued again the first time, and end with an error the second time.
+-- A worked run: two clients are in a driver that a third one kills twice. Behind the driver's
+-- shadow, which has one restart, their calls are issued again the first time, and end with an error
+-- the second time.
 use Rattle.std.specs.Prelude.{true, false, List, [], ◌∷◌, codes}
 use Rattle.machine_defs.specs.declared.values.RpcCode.TheVariants as code
 use Rattle.machine_defs.specs.declared.entry.Entry.{Entry}

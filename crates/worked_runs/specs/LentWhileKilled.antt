@@ -1,4 +1,5 @@
--- A worked run: an object's owner is killed while the object is lent, and the object is freed when the last loan ends.
+-- A worked run: an object's owner is killed while the object is lent, and the object is freed when
+-- the last loan ends.
 use Rattle.std.specs.Prelude.{true, false, List, [], ◌∷◌, ◌++◌, codes}
 use Rattle.rl_defs.specs.declared.code.DomainLine.TheVariants as line
 use Rattle.rl_defs.specs.declared.code.Instr.TheVariants as instr

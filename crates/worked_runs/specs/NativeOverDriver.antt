@@ -1,5 +1,6 @@
--- A worked run: a native body writes a block through its import, reads it back, and returns. When the driver has been killed its call is
--- refused, and it traps. What a native body chooses is left open by the definitions; here are choices that it may make.
+-- A worked run: a native body writes a block through its import, reads it back, and returns. When
+-- the driver has been killed its call is refused, and it traps. What a native body chooses is left
+-- open by the definitions; here are choices that it may make.
 use Rattle.std.specs.Prelude.{false, true, List, [], ◌∷◌, replicate, codes}
 use Rattle.rl_defs.specs.declared.code.DomainLine.TheVariants as form
 use Rattle.rl_defs.specs.declared.code.Native.TheVariants as native

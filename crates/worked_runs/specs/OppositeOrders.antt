@@ -1,5 +1,6 @@
--- A worked run: two clients enter two serial loads, each first the one that the other enters last. One call would go against the order of
--- the loads and is refused; the other waits until its load is free.
+-- A worked run: two clients enter two serial loads, each first the one that the other enters last.
+-- One call would go against the order of the loads and is refused; the other waits until its load
+-- is free.
 use Rattle.std.specs.Prelude.{ℕ, true, List, [], ◌∷◌, codes}
 use Rattle.machine_defs.specs.declared.values.Arg.TheVariants as arg
 use Rattle.rl_defs.specs.declared.values.Value.TheVariants as value

@@ -1,4 +1,5 @@
--- What the worked runs share: struct P, rows of tables, lines, registers, threads and frames, and a plain load.
+-- What the worked runs share: struct P, rows of tables, lines, registers, threads and frames, and a
+-- plain load.
 use Rattle.std.specs.Prelude.{ℕ, ◌+◌, ◌-◌, ◌<◌, Bool, true, false, List, [], ◌∷◌, ◌++◌, length, replicate, Option, None, codes}
 use Rattle.std.proofs.Common.{lit<}
 use Rattle.rl_defs.specs.declared.bundle.Numbered.{Numbered}

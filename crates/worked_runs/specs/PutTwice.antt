@@ -1,4 +1,5 @@
--- A worked run: a domain puts an object into its slot, and traps where it would put another one into the full slot. Both objects are freed.
+-- A worked run: a domain puts an object into its slot, and traps where it would put another one
+-- into the full slot. Both objects are freed.
 use Rattle.std.specs.Prelude.{false, true, List, [], ◌∷◌, Some, codes}
 use Rattle.rl_defs.specs.declared.code.DomainLine.TheVariants as form
 use Rattle.rl_defs.specs.declared.code.Instr.TheVariants as instr

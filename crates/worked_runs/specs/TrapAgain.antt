@@ -1,5 +1,5 @@
--- A worked run: a driver traps at a block that its device hasn't. Behind its shadow the read is issued again, and the driver loaded again
--- traps too: the call ends with an error.
+-- A worked run: a driver traps at a block that its device hasn't. Behind its shadow the read is
+-- issued again, and the driver loaded again traps too: the call ends with an error.
 use Rattle.std.specs.Prelude.{false, true, List, [], ◌∷◌, None, codes}
 use Rattle.machine_defs.specs.declared.values.Arg.TheVariants as arg
 use Rattle.machine_defs.specs.declared.values.Owner.TheVariants as owner

@@ -8,7 +8,8 @@ use Rattle.machine_defs.specs.Texts.{line}
 use Rattle.machine_defs.specs.Report.{out_text}
 use Rattle.machine_defs.specs.Runs.{WholeRun, OrderRun}
 
--- The history is a whole and an ordered run of the load, which ends in this state; and these lines are what it prints.
+-- The history is a whole and an ordered run of the load, which ends in this state; and these lines
+-- are what it prints.
 pub record IsWorked (L : LoadRows) (H : List Entry) (end : State) (lines : List (List ℕ)) : Type 0 where
   pub whole : WholeRun L H end
   pub order : OrderRun L H end

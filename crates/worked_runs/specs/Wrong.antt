@@ -18,7 +18,8 @@ pub record IsWrong (L : LoadRows) (before wrong : List Entry) : Type 0 where
   pub begun : Run L before end
   pub never : (s : State) → Run L (before ++ wrong) s → ⊥
 
--- A driver whose methods may be issued once only. Client `y` kills it while `x` is in it, and has it loaded again by a call of its own.
+-- A driver whose methods may be issued once only. Client `y` kills it while `x` is in it, and has
+-- it loaded again by a call of its own.
 abbrev pub issued_once : LoadRows
 issued_once = driver_load (device_tables method) (client (codes "x") (call_size ∷ []) ∷ client (codes "y") (kill_disk ∷ call_size ∷ []) ∷ []) []
 
@@ -34,7 +35,8 @@ IsInnermostFirst = IsWrong ended_caller (entry.Call 1 1 2 2 0 [] ∷ entry.Call 
 abbrev pub IsReloadCounted : Type 0
 IsReloadCounted = IsWrong killed_in_a_read (entry.Kill 2 1 ∷ []) (entry.Reload 1 2 2 1 ∷ [])
 
--- The owner of an object is killed while the object is lent: the object isn't freed behind the kill.
+-- The owner of an object is killed while the object is lent: the object isn't freed behind the
+-- kill.
 abbrev pub IsKeptWhileLent : Type 0
 IsKeptWhileLent = IsWrong lent_load lent_up_to_kill (entry.Free 1 ∷ [])
 
