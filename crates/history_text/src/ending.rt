@@ -47,7 +47,7 @@ impl Ending {
     }
 
     /// Puts bytes in front.
-    #[inline]
+    #[inline(always)]
     pub(crate) fn put(&mut self, text: &[u8])
         requires { length text.now + length self.old ≤ 128 }
         ensures value { self.new ≡ text.now ++ self.old }
@@ -59,19 +59,29 @@ impl Ending {
         self.start = start;
     }
 
+    // Puts a number in front. It stands apart, and so its loop stands in the program once.
+    #[inline(never)]
+    fn put_digits(&mut self, number: u64)
+        requires { 20 + length self.old ≤ 128 }
+        ensures value { self.new ≡ decimal number ++ self.old }
+        ensures room { length self.new ≤ 20 + length self.old }
+    {
+        self.start = write_digits(number, &mut self.bytes, self.start);
+    }
+
     /// Puts bytes and a number in front.
-    #[inline]
+    #[inline(always)]
     pub(crate) fn put_number(&mut self, text: &[u8], number: u64)
         requires { length text.now + (20 + length self.old) ≤ 128 }
         ensures value { self.new ≡ text.now ++ (decimal number ++ self.old) }
         ensures room { length self.new ≤ length text.now + (20 + length self.old) }
     {
-        self.start = write_digits(number, &mut self.bytes, self.start);
+        self.put_digits(number);
         self.put(text);
     }
 
     /// Puts bytes and a name in front.
-    #[inline]
+    #[inline(always)]
     pub(crate) fn put_name(&mut self, text: &[u8], name: &[u8])
         requires short { length name.now ≤ 24 }
         requires room { length text.now + (24 + length self.old) ≤ 128 }

@@ -22,6 +22,7 @@ mod verb;
 mod words;
 
 pub use entries::{write_entry, write_log};
+pub use numbers::number_of;
 pub use reader::read_entry;
 pub use replies::write_replies;
 pub use spellings::Spellings;

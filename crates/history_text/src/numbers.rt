@@ -29,8 +29,9 @@ fn append_digit(value: u64, digit: u8) -> Option<u64>
     value.checked_mul(10)?.checked_add(u64::from(digit - b'0'))
 }
 
-// The number that digits spell, in its one spelling.
-fn number_of(digits: &[u8]) -> Option<u64>
+/// The number that digits spell, in its one spelling. None where it hasn't 64 bits, or a zero
+/// stands in front.
+pub fn number_of(digits: &[u8]) -> Option<u64>
     requires { AllDigits 10 digits.now }
     ensures { MatchOption result ((n : ℕ) → n < 2 ^ 64 → digits.now ≢ decimal n)
         (λ n. (digits.now ≡ decimal n) × (n < 2 ^ 64)) }

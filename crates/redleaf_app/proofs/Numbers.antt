@@ -64,16 +64,3 @@ number_once m n x y lm ln nx ny e =
     let two = number_is (decimal m ++ x) n y ln ny e in
     let same : m ≡ n = decimal_injective m n lm ln (sym one ∙ two) in
     (same, append_cancel_left (decimal n) x y (ap (λ k. decimal k ++ x) (sym same) ∙ e))
-
--- digits with a zero in front of others spell no number
-pub not_canonical : (ds : List ℕ) (n : ℕ) → n < 2 ^ 64 → get_or ds 0 0 ≡ 48 → 1 < length ds → ds ≡ decimal n → ⊥
-not_canonical ds zero lt zero_first long e = let one : decimal 0 ≡ 48 ∷ [] = decimal_digit 0 (omega arith) in omega (arith, ap length (e ∙ one))
-not_canonical ds (suc n) lt zero_first long e =
-    omega (arith, first_decimal (suc n) (omega arith) lt, ap (λ xs. get_or xs 0 0) e)
-
--- digits of a value that is known to fit or not, in the one spelling of a number
-pub number_cases : (r : Option ℕ) (ds : List ℕ) → AllDigits 10 ds → 0 < length ds → (get_or ds 0 0 ≡ 48 → length ds ≡ 1) → MatchOption r (2 ^ 64 ≤ digits_value 10 ds) (λ n. (n ≡ digits_value 10 ds) × (n < 2 ^ 64)) → MatchOption r ((n : ℕ) → n < 2 ^ 64 → ds ≢ decimal n) (λ n. (ds ≡ decimal n) × (n < 2 ^ 64))
-number_cases None ds all some canonical big = λ n lt e. omega (arith, big, lt, ap (digits_value 10) e, digits_value-decimal own n lt)
-number_cases (Some v) ds all some canonical is =
-    let lt : digits_value 10 ds < 2 ^ 64 = omega (arith, is.0, is.1) in
-    (sym (decimal-digits_value own ds all some canonical lt) ∙ ap decimal (sym is.0), is.1)

@@ -93,21 +93,21 @@ pub fn redleaf_calm<S: Source, K: Sink>(
     // the load that the bytes are accepted as.
     ensures done { result ≡ Status.Done
         → WasDone LONGEST_BUNDLE (map string_bytes words.now) (S.left source.old) (S.left source.new)
-            (K.given sink.old) (K.given sink.new) }
+        (K.given sink.old) (K.given sink.new) }
     // The bytes that were read to the end are refused: by the first rule that fails, or, with
     // `run`, as something that isn't built.
     ensures refused { result ≡ Status.Refused
         → WasRefused LONGEST_BUNDLE (map string_bytes words.now) (S.left source.old) (S.left source.new)
-            (K.given sink.old) (K.given sink.new) }
+        (K.given sink.old) (K.given sink.new) }
     // The bytes are accepted, and the whole text of an ordered run of their load was written, which
     // stopped before its end, since the history was full.
     ensures long { result ≡ Status.Long
         → WasFull LONGEST_BUNDLE (map string_bytes words.now) (S.left source.old) (S.left source.new)
-            (K.given sink.old) (K.given sink.new) }
+        (K.given sink.old) (K.given sink.new) }
     // A front of the text of Done, of Refused or of Long.
     ensures cut_off { result ≡ Status.WriteFault
         → WasCutOff LONGEST_BUNDLE (map string_bytes words.now) (S.left source.old) (S.left source.new)
-            (K.given sink.old) (K.given sink.new) }
+        (K.given sink.old) (K.given sink.new) }
 
     ensures usage { (result ≡ Status.Usage) ↔ AreOfNone (map string_bytes words.now) }
     ensures read_fault { result ≡ Status.ReadFault → Rose (S.faults source.old) (S.faults source.new) }
