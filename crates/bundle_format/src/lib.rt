@@ -12,8 +12,6 @@ mod line;
 mod put;
 mod queue;
 mod status;
-#[cfg(test)]
-mod tests;
 mod weave;
 
 pub use calm::format_calm;

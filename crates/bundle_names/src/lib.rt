@@ -15,7 +15,5 @@ mod interfaces;
 mod known;
 mod plan;
 mod roles;
-#[cfg(test)]
-mod tests;
 
 pub use check::check_names;

@@ -5,8 +5,6 @@ mod clients;
 pub mod laws;
 mod list;
 mod plan;
-#[cfg(test)]
-mod tests;
 mod written;
 
 pub use clients::{read_clients, write_clients};

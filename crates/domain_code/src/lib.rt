@@ -8,8 +8,6 @@ mod list;
 mod operand;
 mod part;
 mod read;
-#[cfg(test)]
-mod tests;
 mod verb;
 mod write;
 

@@ -9,8 +9,6 @@ mod nesting;
 mod part;
 mod rows;
 mod search;
-#[cfg(test)]
-mod tests;
 mod types;
 mod walk;
 

@@ -8,8 +8,6 @@ mod names;
 mod rows;
 mod rules;
 mod scan;
-#[cfg(test)]
-mod tests;
 
 pub use names::method;
 pub use rows::build;

@@ -11,8 +11,6 @@ mod refusal;
 mod reply;
 mod run;
 mod status;
-#[cfg(test)]
-mod tests;
 mod text;
 
 pub use calm::{LONGEST_BUNDLE, redleaf_calm};

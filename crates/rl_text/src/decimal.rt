@@ -55,29 +55,3 @@ pub fn has_decimals(bytes: &[u8], line: &Line) -> bool
         }
     }
 }
-
-#[cfg(test)]
-mod tests {
-    use super::*;
-    use std::test::Fail;
-
-    #[test]
-    fn decimals(rt: HostRuntime) -> Result<(), Fail> {
-        let rows: [(&[u8], bool); 5] = [
-            (b"hang r1, 0, r2", true),
-            (b"hang r1, 0x0, r2", false),
-            (b"trap // 0x0", true),
-            (b"", true),
-            (b"\"", false),
-        ];
-        for (text, decimal) in rows {
-            let line = Line {
-                number: 1,
-                start: 0,
-                end: text.len().min(4096) as u32,
-            };
-            assert_eq!(rt; has_decimals(text, &line), decimal);
-        }
-        Ok(())
-    }
-}

@@ -279,24 +279,3 @@ fn put_rest<'p, 'a>(
     }
     Ok(())
 }
-
-#[cfg(test)]
-mod tests {
-    use super::*;
-    use std::test::Fail;
-
-    #[test]
-    fn written(rt: HostRuntime) -> Result<(), Fail> {
-        let mut line = Spelling::new(rt.alloc());
-        line.key(Key::Const)?;
-        line.mark(Mark::Ampersand)?;
-        line.text(b"a b")?;
-        line.number(17)?;
-        line.mark(Mark::Comma)?;
-        let mut bytes = Vec::new(rt.alloc());
-        line.write_line(rt.alloc(), 1, &mut bytes)?;
-        let wanted: &[u8] = b"    const &\"a b\" 17,\n";
-        assert!(rt; bytes.as_slice() == wanted);
-        Ok(())
-    }
-}

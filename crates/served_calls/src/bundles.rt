@@ -1,5 +1,5 @@
 //! Worked examples of the whole call, from the bytes that come in to the bytes that go out.
-use crate::{Status, redleaf_calm, refusal_in};
+use redleaf_app::{Status, redleaf_calm, refusal_in};
 use rl_defs::Refusal;
 use rl_io::{MemSink, MemSource};
 use std::alloc::Global;

@@ -1,5 +1,6 @@
-//! Tests of the plan and of the clients: worked parts, and lines with their answers.
-use crate::{read_clients, read_plan, write_clients, write_plan};
+//! Plans and clients: worked parts, and lines with their answers.
+
+use bundle_syntax::{read_clients, read_plan, write_clients, write_plan};
 use rl_defs::LoadFault;
 use rl_text::line::lines;
 use std::alloc::Global;
@@ -13,7 +14,14 @@ const PLANS: [&[u8]; 6] = [
     b"load f = F\nload e = E\nload a = A\nbind e.next = f\nbind a.first = e\norder x, x, x, y\n",
     b"load drv = Driver\ndevice drv 4\nshadow disk = drv restarts 1\norder x, x, y\n",
     b"load p = D\nload q = D\nserial p\nserial q\nfuel 1000000\n",
-    b"load drv = Driver\nload fs = Fs\nload rv = Rv\ndevice drv 64\nshadow disk = drv restarts 3\nbind fs.disk = disk\nbind rv.files = fs\n",
+    b"load drv = Driver
+load fs = Fs
+load rv = Rv
+device drv 64
+shadow disk = drv restarts 3
+bind fs.disk = disk
+bind rv.files = fs
+",
 ];
 
 const CLIENTS: [&[u8]; 6] = [
@@ -22,7 +30,42 @@ const CLIENTS: [&[u8]; 6] = [
     b"client x {\n    call a.s()\n}\nclient y {\n    kill a\n}\n",
     b"client x {\n    call disk.read(0) -> b\n}\nclient y {\n    kill disk\n}\n",
     b"client x {\n    call q.go(@p)\n}\nclient y {\n    call p.go(@q)\n}\n",
-    b"client x {\n    text n = Name \"notes\"\n    text t = Bytes \"hello\"\n    let z = new Bytes\n    text l = Name \"aaaaaaaaaaaaaaaaaaaaaaaa\"\n    text m = Name \"aaaaaaaaaaaaaaaaaaaaaaaaa\"\n    call fs.mkfs()\n    call rv.open(&n, 1) -> e1, f\n    call rv.write(f, 5, &t)\n    kill disk\n    call rv.seek(f, 0)\n    call rv.read(f, 512, z) -> e2, k2, z2\n    show z2\n    call rv.write(f, 505, &z2)\n    call rv.write(f, 5, &t)\n    kill disk\n    call rv.seek(f, 510)\n    call rv.read(f, 512, z2) -> e3, k3, z3\n    show z3\n    call rv.read(f, 512, z3) -> e4, k4, z4\n    call rv.seek(f, 516)\n    call rv.unlink(&n)\n    call rv.close(f)\n    call rv.unlink(&n)\n    call rv.open(&n, 0)\n    call rv.close(f)\n    call fs.create(&l)\n    call fs.create(&m)\n    call rv.pipe_put(42)\n    call rv.pipe_get()\n    call rv.pipe_get()\n    let w = new P 1, 2, 18446744073709551615\n    text u = Bytes \" a // b ~\"\n    drop w\n}\n",
+    b"client x {
+    text n = Name \"notes\"
+    text t = Bytes \"hello\"
+    let z = new Bytes
+    text l = Name \"aaaaaaaaaaaaaaaaaaaaaaaa\"
+    text m = Name \"aaaaaaaaaaaaaaaaaaaaaaaaa\"
+    call fs.mkfs()
+    call rv.open(&n, 1) -> e1, f
+    call rv.write(f, 5, &t)
+    kill disk
+    call rv.seek(f, 0)
+    call rv.read(f, 512, z) -> e2, k2, z2
+    show z2
+    call rv.write(f, 505, &z2)
+    call rv.write(f, 5, &t)
+    kill disk
+    call rv.seek(f, 510)
+    call rv.read(f, 512, z2) -> e3, k3, z3
+    show z3
+    call rv.read(f, 512, z3) -> e4, k4, z4
+    call rv.seek(f, 516)
+    call rv.unlink(&n)
+    call rv.close(f)
+    call rv.unlink(&n)
+    call rv.open(&n, 0)
+    call rv.close(f)
+    call fs.create(&l)
+    call fs.create(&m)
+    call rv.pipe_put(42)
+    call rv.pipe_get()
+    call rv.pipe_get()
+    let w = new P 1, 2, 18446744073709551615
+    text u = Bytes \" a // b ~\"
+    drop w
+}
+",
 ];
 
 // What a part is written back as, or the line and the rule that refuse it.

@@ -1,5 +1,5 @@
 //! Worked examples of the whole call, from the bytes that come in to the bytes that go out.
-use crate::{Status, format_calm};
+use bundle_format::{Status, format_calm};
 use rl_io::{MemSink, MemSource};
 use std::alloc::Global;
 use std::test::Fail;
