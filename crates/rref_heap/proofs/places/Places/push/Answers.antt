@@ -1,4 +1,5 @@
-use Rattle.std.proofs.Common.{◌≡◌, ◌+◌, ◌<◌, ℕ, List, Option, ap, ◌∙◌, arith, length, length-map, map}
+use Rattle.std.proofs.Common.{◌≡◌, ◌+◌, ◌<◌, ℕ, List, Option, ap, ◌∙◌, arith, length, map}
+use Rattle.std.proofs.lemmas.List.{length-map}
 use Rattle.rref_heap.specs.Keyed.{spot_under}
 use Rattle.rref_heap.proofs.Keyed.{added_keyed, added_spots}
 use Rattle.rref_heap.proofs.places.Places.push.Goals as goal
