@@ -91,12 +91,16 @@ module _ {keys : List (Option ℕ)} {capacity : ℕ} {places : Slab Place} {room
     where
       new : Slab Place
       new = with_value places key q
+
       spots : List (Option Spot)
       spots = map (spot_under places) keys
+
       updates : Updates places new key (Some q)
       updates = Updates-with_value places key q (rw found refl)
+
       lengths : length (map (spot_under new) keys) ≡ length (map (on_spot n f) spots)
       lengths = length-map keys (spot_under new) ∙ sym (length-map spots (on_spot n f) ∙ length-map keys (spot_under places))
+
       step : (m : ℕ) → (m ≡ n) ⊎ (m ≡ n → ⊥) → spot_under new (key_at keys m) ≡ on_spot n f (at spots m)
       step m (inl e) = rw e (ap (spot_under new) is ∙ (ap (λ y. spot_in y) updates.changed ∙ (ap Some same ∙ sym (here_on n f spots numbered (spot_of p) (at_key n key p is found)))))
       step m (inr ne) = elsewhere new n m key (Some q) is updates ne ∙ (sym (at_spots places keys m) ∙ sym (at_on n f spots numbered m ne))
@@ -132,12 +136,16 @@ module _ {keys : List (Option ℕ)} {capacity : ℕ} {places : Slab Place} {room
     where
       left : List (Option ℕ)
       left = slice_set keys (n - 1) None
+
       spots : List (Option Spot)
       spots = map (spot_under places) keys
+
       within : (0 < n) × (n ≤ length keys)
       within = key_within keys n key is
+
       lengths : length (map (spot_under new) left) ≡ length (map (unless_spot n) spots)
       lengths = length-map left (spot_under new) ∙ (length-set keys (n - 1) None ∙ sym (length-map spots (unless_spot n) ∙ length-map keys (spot_under places)))
+
       step : (m : ℕ) → (m ≡ n) ⊎ (m ≡ n → ⊥) → spot_under new (key_at left m) ≡ unless_spot n (at spots m)
       step m (inl e) = rw e (ap (spot_under new) (key_at_set_same keys n None within.0 within.1) ∙ sym (here_unless n spots numbered))
       step m (inr ne) = ap (spot_under new) (key_at_set_other keys n m None within.0 ne) ∙ (elsewhere new n m key None is updates ne ∙ (sym (at_spots places keys m) ∙ sym (at_unless n spots numbered m ne)))
@@ -195,6 +203,7 @@ module _ {keys : List (Option ℕ)} {capacity : ℕ} {places : Slab Place} {room
       at_number : (m : ℕ) (x : Option ℕ) → key_at keys m ≡ x → spot_under new x ≡ spot_under places x
       at_number m None e = refl
       at_number m (Some other) e = ap (λ y. spot_in y) (updates.others other (vacant_differs m key other vacant e))
+
       same : map (spot_under new) keys ≡ map (spot_under places) keys
       same = same_spots _ _ (length-map keys (spot_under new) ∙ sym (length-map keys (spot_under places))) (λ m. at_spots new keys m ∙ (at_number m (key_at keys m) refl ∙ sym (at_spots places keys m)))
 

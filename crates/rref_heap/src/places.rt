@@ -194,8 +194,7 @@ impl Places {
         ensures { self.new ≡ record self.old { spots = map (on_spot number (to_next next)) self.old.spots } }
     {
         if let Some(key) = key_of(&self.keys, number) {
-            let place = &mut self.places[key];
-            place.next = next;
+            self.places[key].next = next;
         }
     }
 
@@ -204,8 +203,7 @@ impl Places {
         ensures { self.new ≡ record self.old { spots = map (on_spot number (to_prev prev)) self.old.spots } }
     {
         if let Some(key) = key_of(&self.keys, number) {
-            let place = &mut self.places[key];
-            place.prev = prev;
+            self.places[key].prev = prev;
         }
     }
 
@@ -252,8 +250,7 @@ impl Places {
         ensures { self.new ≡ record self.old { spots = map (on_spot number to_leave) self.old.spots } }
     {
         if let Some(key) = key_of(&self.keys, number) {
-            let place = &mut self.places[key];
-            place.leaves = true;
+            self.places[key].leaves = true;
         }
     }
 
@@ -263,8 +260,7 @@ impl Places {
         ensures { self.new ≡ record self.old { spots = map (on_spot number one_more) self.old.spots } }
     {
         if let Some(key) = key_of(&self.keys, number) {
-            let place = &mut self.places[key];
-            place.word.lend();
+            self.places[key].word.lend();
         }
     }
 
@@ -287,8 +283,7 @@ impl Places {
         ensures { self.new ≡ record self.old { spots = map (on_spot number (written from values.now)) self.old.spots } }
     {
         if let Some(key) = key_of(&self.keys, number) {
-            let place = &mut self.places[key];
-            write_cells(&mut place.cells, from as usize, values);
+            write_cells(&mut self.places[key].cells, from as usize, values);
         }
     }
 
@@ -298,8 +293,7 @@ impl Places {
         ensures { self.new ≡ record self.old { spots = map (on_spot number (to_cells values.now)) self.old.spots } }
     {
         if let Some(key) = key_of(&self.keys, number) {
-            let place = &mut self.places[key];
-            write_cells(&mut place.cells, 0, values);
+            write_cells(&mut self.places[key].cells, 0, values);
         }
     }
 }

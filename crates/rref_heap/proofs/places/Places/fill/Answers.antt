@@ -8,12 +8,12 @@ use Rattle.rref_heap.proofs.places.Places.fill.Goals as goal
 pub invariant_of-self : goal.invariant_of-self
 invariant_of-self c =
     let is : key_at c.self.inside.keys.items c.args.number ≡ Some c.in-Some.key = rw c.deref.ensures.value at (sym c.in-Some.ensures) in
-    changed_keyed c.self.invariant c.args.number c.in-Some.key c.index_mut-place.result.now _ is c.index_mut-place.ensures.value refl
+    changed_keyed c.self.invariant c.args.number c.in-Some.key c.index_mut.result.now _ is c.index_mut.ensures.value refl
 
 pub returns-in-Some : goal.returns-in-Some
 returns-in-Some c =
     let is : key_at c.self.inside.keys.items c.args.number ≡ Some c.in-Some.key = rw c.deref.ensures.value at (sym c.in-Some.ensures) in
-    rw (← c.self.view_is) (changed c.self.invariant c.args.number c.in-Some.key (to_cells c.args.values.now) c.index_mut-place.result.now _ is c.index_mut-place.ensures.value (ap (λ (l : List ℕ). record (spot_of c.index_mut-place.result.now) { cells = l }) (c.write_cells.ensures ∙ all_over c.args.values.now c.index_mut-place.result.now.cells.items (c.requires (spot_of c.index_mut-place.result.now) (rw (← c.self.view_is) (at_key c.self.invariant c.args.number c.in-Some.key c.index_mut-place.result.now is c.index_mut-place.ensures.value))))))
+    rw (← c.self.view_is) (changed c.self.invariant c.args.number c.in-Some.key (to_cells c.args.values.now) c.index_mut.result.now _ is c.index_mut.ensures.value (ap (λ (l : List ℕ). record (spot_of c.index_mut.result.now) { cells = l }) (c.write_cells.ensures ∙ all_over c.args.values.now c.index_mut.result.now.cells.items (c.requires (spot_of c.index_mut.result.now) (rw (← c.self.view_is) (at_key c.self.invariant c.args.number c.in-Some.key c.index_mut.result.now is c.index_mut.ensures.value))))))
 
 pub returns-in_default : goal.returns-in_default
 returns-in_default c =
@@ -23,5 +23,5 @@ returns-in_default c =
 pub write_cells-requires : goal.write_cells-requires
 write_cells-requires c =
     let is : key_at c.self.inside.keys.items c.args.number ≡ Some c.in-Some.key = rw c.deref.ensures.value at (sym c.in-Some.ensures) in
-    let need = c.requires (spot_of c.index_mut-place.result.now) (rw (← c.self.view_is) (at_key c.self.invariant c.args.number c.in-Some.key c.index_mut-place.result.now is c.index_mut-place.ensures.value)) in
+    let need = c.requires (spot_of c.index_mut.result.now) (rw (← c.self.view_is) (at_key c.self.invariant c.args.number c.in-Some.key c.index_mut.result.now is c.index_mut.ensures.value)) in
     omega (arith, need)

@@ -7,12 +7,12 @@ use Rattle.rref_heap.proofs.places.Places.lend.Goals as goal
 pub invariant_of-self : goal.invariant_of-self
 invariant_of-self c =
     let is : key_at c.self.inside.keys.items c.args.number ≡ Some c.in-Some.key = rw c.deref.ensures.value at (sym c.in-Some.ensures) in
-    changed_keyed c.self.invariant c.args.number c.in-Some.key c.index_mut-place.result.now _ is c.index_mut-place.ensures.value refl
+    changed_keyed c.self.invariant c.args.number c.in-Some.key c.index_mut.result.now _ is c.index_mut.ensures.value refl
 
 pub returns-in-Some : goal.returns-in-Some
 returns-in-Some c =
     let is : key_at c.self.inside.keys.items c.args.number ≡ Some c.in-Some.key = rw c.deref.ensures.value at (sym c.in-Some.ensures) in
-    rw (← c.self.view_is) (changed c.self.invariant c.args.number c.in-Some.key one_more c.index_mut-place.result.now _ is c.index_mut-place.ensures.value (ap (λ (k : ℕ). record (spot_of c.index_mut-place.result.now) { loans = k }) (ap (λ x. x.count) c.lend.ensures)))
+    rw (← c.self.view_is) (changed c.self.invariant c.args.number c.in-Some.key one_more c.index_mut.result.now _ is c.index_mut.ensures.value (ap (λ (k : ℕ). record (spot_of c.index_mut.result.now) { loans = k }) (ap (λ x. x.count) c.lend.ensures)))
 
 pub returns-in_default : goal.returns-in_default
 returns-in_default c =
@@ -22,5 +22,5 @@ returns-in_default c =
 pub lend-requires : goal.lend-requires
 lend-requires c =
     let is : key_at c.self.inside.keys.items c.args.number ≡ Some c.in-Some.key = rw c.deref.ensures.value at (sym c.in-Some.ensures) in
-    let need = c.requires (spot_of c.index_mut-place.result.now) (rw (← c.self.view_is) (at_key c.self.invariant c.args.number c.in-Some.key c.index_mut-place.result.now is c.index_mut-place.ensures.value)) in
+    let need = c.requires (spot_of c.index_mut.result.now) (rw (← c.self.view_is) (at_key c.self.invariant c.args.number c.in-Some.key c.index_mut.result.now is c.index_mut.ensures.value)) in
     need

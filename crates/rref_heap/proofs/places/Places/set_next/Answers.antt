@@ -7,12 +7,12 @@ use Rattle.rref_heap.proofs.places.Places.set_next.Goals as goal
 pub invariant_of-self : goal.invariant_of-self
 invariant_of-self c =
     let is : key_at c.self.inside.keys.items c.args.number ≡ Some c.in-Some.key = rw c.deref.ensures.value at (sym c.in-Some.ensures) in
-    changed_keyed c.self.invariant c.args.number c.in-Some.key c.index_mut-place.result.now _ is c.index_mut-place.ensures.value refl
+    changed_keyed c.self.invariant c.args.number c.in-Some.key c.index_mut.result.now _ is c.index_mut.ensures.value refl
 
 pub returns-in-Some : goal.returns-in-Some
 returns-in-Some c =
     let is : key_at c.self.inside.keys.items c.args.number ≡ Some c.in-Some.key = rw c.deref.ensures.value at (sym c.in-Some.ensures) in
-    rw (← c.self.view_is) (changed c.self.invariant c.args.number c.in-Some.key (to_next c.args.next) c.index_mut-place.result.now _ is c.index_mut-place.ensures.value refl)
+    rw (← c.self.view_is) (changed c.self.invariant c.args.number c.in-Some.key (to_next c.args.next) c.index_mut.result.now _ is c.index_mut.ensures.value refl)
 
 pub returns-in_default : goal.returns-in_default
 returns-in_default c =

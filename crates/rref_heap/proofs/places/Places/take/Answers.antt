@@ -1,5 +1,4 @@
-use Rattle.std.proofs.Common.{◌≡◌, ap, sym, ◌∙◌, subst, arith, refl, map, Some, None}
-use Rattle.rref_heap.specs.Spots.{at, Numbered, spot_in}
+use Rattle.std.proofs.Common.{◌≡◌, sym, refl, Some, None}
 use Rattle.rref_heap.specs.Keyed.{key_at}
 use Rattle.rref_heap.proofs.Spots.{none_unless}
 use Rattle.rref_heap.proofs.Keyed.{numbered, taken_keyed, taken_spots, at_key, at_no_key}
