@@ -1,4 +1,5 @@
 pub mod Spots
+pub mod Keyed
 pub mod Links
 pub mod Quiet
 pub mod Passing

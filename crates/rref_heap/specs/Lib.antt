@@ -6,3 +6,4 @@ pub mod Spots
 pub mod Links
 pub mod Listing
 pub mod Store
+pub mod Keyed

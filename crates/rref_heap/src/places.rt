@@ -3,31 +3,39 @@ ghost use Rattle.std.specs.Prelude.{◌≡◌, ◌≢◌, ◌<◌, ◌≤◌, �
 ghost use Rattle.std.specs.Option.{option_copied};
 ghost use Rattle.std.specs.List.{slice_index_or};
 ghost use Rattle.machine_defs.specs.Objects.{overwritten};
+ghost use Rattle.rref_heap.specs.Keyed.{key_at};
 ghost use Rattle.rref_heap.specs.Spots.{Spot as ASpot, Numbered, at, spot_in, spot_of, on_spot, unless_spot, to_next, to_prev, to_owner, to_cell, to_below, to_leave, one_more, one_fewer, written, to_cells, stays_in, width_of, below_in, loans_in, next_in};
 
 use crate::place::{Hanging, Place};
 use borrow_counts::BorrowWord;
 use machine_defs::values::Owner;
+use slab::Slab;
 use std::alloc::{AllocError, Global};
 use std::marker::Model;
-use std::mem;
 
-/// The places of a heap. The object with number n stands at place n - 1, and what was taken out
-/// leaves its place empty.
+/// The places of a heap. The objects that are there stand in a slab, which uses the place of one
+/// that was taken out again.
+///
+/// The object with number n has its key in the slab at `keys[n - 1]`, and one that was taken out
+/// leaves `None` there. So a number that is gone keeps its entry of that list, and no more.
 #[derive(Drop)]
 pub struct Places {
-    items: Vec<Option<Place>>,
+    keys: Vec<Option<usize>>,
+    places: Slab<Place>,
+    // How many more fit into both without memory, as far as was reserved.
+    room: usize,
 }
 
 impl Model for Places {
-    ghost use Rattle.std.specs.Prelude.{vec_len, vec_capacity, ◌-◌, map};
-    ghost use Rattle.rref_heap.specs.Spots.{spot_in, PlacesValue, Numbered};
+    ghost use Rattle.std.specs.Prelude.{vec_capacity, map};
+    ghost use Rattle.rref_heap.specs.Spots.{PlacesValue};
+    ghost use Rattle.rref_heap.specs.Keyed.{spot_under, IsKeyed};
 
     ghost Value = { PlacesValue };
 
-    ghost view = { λ p. record { spots = map spot_in p.items.items; spare = vec_capacity p.items - vec_len p.items } };
+    ghost view = { λ p. record { spots = map (spot_under p.places) p.keys.items; spare = p.room } };
 
-    ghost invariant = { λ p. Numbered (map spot_in p.items.items) };
+    ghost invariant = { λ p. IsKeyed p.keys.items (vec_capacity p.keys) p.places p.room };
 }
 
 // Ends a loan. The answer is whether nobody can reach the object any more, where it is told whether
@@ -53,11 +61,24 @@ fn write_cells(cells: &mut Vec<u64>, from: usize, values: &[u64])
     cells[from..end].copy_from_slice(values);
 }
 
-// The slot of a number.
-fn slot_of(number: u64) -> usize
+// The index of a number in the list of keys.
+fn index_of(number: u64) -> usize
     ensures { result ≡ number - 1 }
 {
     number.saturating_sub(1) as usize
+}
+
+// The key of an object. None where it is gone.
+fn key_of(keys: &[Option<usize>], number: u64) -> Option<usize>
+    ensures { result ≡ key_at keys.now number }
+{
+    if number == 0 {
+        return None;
+    }
+    match keys.get(index_of(number)) {
+        Some(&key) => key,
+        None => None,
+    }
 }
 
 impl Places {
@@ -66,7 +87,9 @@ impl Places {
         ensures { result.spots ≡ [] }
     {
         Places {
-            items: Vec::new(alloc),
+            keys: Vec::new(alloc),
+            places: Slab::new(alloc),
+            room: 0,
         }
     }
 
@@ -74,7 +97,7 @@ impl Places {
     pub fn len(&self) -> usize
         ensures { result ≡ length self.now.spots }
     {
-        self.items.len()
+        self.keys.len()
     }
 
     /// Makes room for one more.
@@ -83,7 +106,11 @@ impl Places {
         ensures ok { OnOk result (0 < self.new.spare) }
         ensures err { OnErr result (self.new ≡ self.old) }
     {
-        self.items.reserve(1)?;
+        if self.room == 0 {
+            self.keys.reserve(1)?;
+            self.places.reserve(1)?;
+            self.room = 1;
+        }
         Ok(())
     }
 
@@ -93,22 +120,17 @@ impl Places {
         requires number { place.number ≡ length self.old.spots + 1 }
         ensures { self.new.spots ≡ self.old.spots ++ Some (spot_of place) ∷ [] }
     {
-        self.items.push_reserved(Some(place));
+        let key = self.places.insert_reserved(place);
+        self.keys.push_reserved(Some(key));
+        self.room -= 1;
     }
 
     /// The place of an object. None where it is gone.
     pub fn get(&self, number: u64) -> Option<&Place>
         ensures { spot_in (option_copied result) ≡ at self.now.spots number }
     {
-        let count = self.items.len();
-        if number == 0 {
-            return None;
-        }
-        let slot = slot_of(number);
-        if count <= slot {
-            return None;
-        }
-        self.items[slot].as_ref()
+        let key = key_of(&self.keys, number)?;
+        self.places.get(key)
     }
 
     /// How many cells of an object others may hang in, 0 where it is gone.
@@ -162,36 +184,17 @@ impl Places {
         ensures value { spot_in result ≡ at self.old.spots number }
         ensures rest { self.new ≡ record self.old { spots = map (unless_spot number) self.old.spots } }
     {
-        let count = self.items.len();
-        if number == 0 {
-            return None;
-        }
-        let slot = slot_of(number);
-        if count <= slot {
-            return None;
-        }
-        mem::replace(&mut self.items[slot], None)
-    }
-
-    // Puts an object that was taken out back.
-    fn put(&mut self, place: Place)
-        requires some { 0 < place.number }
-        requires within { place.number ≤ length self.old.spots }
-        ensures { self.new ≡ record self.old {
-          spots = slice_set self.old.spots (place.number - 1) (Some (spot_of place));
-        } }
-    {
-        let slot = slot_of(place.number);
-        self.items[slot] = Some(place);
+        let key = key_of(&self.keys, number)?;
+        self.keys[index_of(number)] = None;
+        Some(self.places.remove(key))
     }
 
     /// The next root of the owner is another one.
     pub fn set_next(&mut self, number: u64, next: u64)
         ensures { self.new ≡ record self.old { spots = map (on_spot number (to_next next)) self.old.spots } }
     {
-        if let Some(mut place) = self.take(number) {
-            place.next = next;
-            self.put(place);
+        if let Some(key) = key_of(&self.keys, number) {
+            self.places[key].next = next;
         }
     }
 
@@ -199,9 +202,8 @@ impl Places {
     pub fn set_prev(&mut self, number: u64, prev: u64)
         ensures { self.new ≡ record self.old { spots = map (on_spot number (to_prev prev)) self.old.spots } }
     {
-        if let Some(mut place) = self.take(number) {
-            place.prev = prev;
-            self.put(place);
+        if let Some(key) = key_of(&self.keys, number) {
+            self.places[key].prev = prev;
         }
     }
 
@@ -209,12 +211,12 @@ impl Places {
     pub fn set_owner(&mut self, number: u64, owner: Owner, next: u64)
         ensures { self.new ≡ record self.old { spots = map (on_spot number (to_owner owner next)) self.old.spots } }
     {
-        if let Some(mut place) = self.take(number) {
+        if let Some(key) = key_of(&self.keys, number) {
+            let place = &mut self.places[key];
             place.owner = owner;
             place.hangs = None;
             place.next = next;
             place.prev = 0;
-            self.put(place);
         }
     }
 
@@ -224,11 +226,11 @@ impl Places {
           spots = map (on_spot number (to_cell hanging.parent hanging.place)) self.old.spots;
         } }
     {
-        if let Some(mut place) = self.take(number) {
+        if let Some(key) = key_of(&self.keys, number) {
+            let place = &mut self.places[key];
             place.hangs = Some(hanging);
             place.next = 0;
             place.prev = 0;
-            self.put(place);
         }
     }
 
@@ -237,9 +239,9 @@ impl Places {
         requires { (p : ASpot) → at self.old.spots number ≡ Some p → cell < length p.below }
         ensures { self.new ≡ record self.old { spots = map (on_spot number (to_below cell below)) self.old.spots } }
     {
-        if let Some(mut place) = self.take(number) {
+        if let Some(key) = key_of(&self.keys, number) {
+            let place = &mut self.places[key];
             place.below[cell as usize] = below;
-            self.put(place);
         }
     }
 
@@ -247,9 +249,8 @@ impl Places {
     pub fn set_leaving(&mut self, number: u64)
         ensures { self.new ≡ record self.old { spots = map (on_spot number to_leave) self.old.spots } }
     {
-        if let Some(mut place) = self.take(number) {
-            place.leaves = true;
-            self.put(place);
+        if let Some(key) = key_of(&self.keys, number) {
+            self.places[key].leaves = true;
         }
     }
 
@@ -258,9 +259,8 @@ impl Places {
         requires { (p : ASpot) → at self.old.spots number ≡ Some p → p.loans < 1048576 }
         ensures { self.new ≡ record self.old { spots = map (on_spot number one_more) self.old.spots } }
     {
-        if let Some(mut place) = self.take(number) {
-            place.word.lend();
-            self.put(place);
+        if let Some(key) = key_of(&self.keys, number) {
+            self.places[key].word.lend();
         }
     }
 
@@ -271,12 +271,10 @@ impl Places {
         ensures loans { self.new ≡ record self.old { spots = map (on_spot number one_fewer) self.old.spots } }
         ensures free { (p : ASpot) → at self.old.spots number ≡ Some p → result ≡ ended && (p.loans == 1) }
     {
-        let Some(mut place) = self.take(number) else {
+        let Some(key) = key_of(&self.keys, number) else {
             return false;
         };
-        let free = give_back_word(&mut place.word, ended);
-        self.put(place);
-        free
+        give_back_word(&mut self.places[key].word, ended)
     }
 
     /// Cells from a place on have these values.
@@ -284,9 +282,8 @@ impl Places {
         requires { (p : ASpot) → at self.old.spots number ≡ Some p → from + length values.now ≤ length p.cells }
         ensures { self.new ≡ record self.old { spots = map (on_spot number (written from values.now)) self.old.spots } }
     {
-        if let Some(mut place) = self.take(number) {
-            write_cells(&mut place.cells, from as usize, values);
-            self.put(place);
+        if let Some(key) = key_of(&self.keys, number) {
+            write_cells(&mut self.places[key].cells, from as usize, values);
         }
     }
 
@@ -295,9 +292,8 @@ impl Places {
         requires { (p : ASpot) → at self.old.spots number ≡ Some p → length values.now ≡ length p.cells }
         ensures { self.new ≡ record self.old { spots = map (on_spot number (to_cells values.now)) self.old.spots } }
     {
-        if let Some(mut place) = self.take(number) {
-            write_cells(&mut place.cells, 0, values);
-            self.put(place);
+        if let Some(key) = key_of(&self.keys, number) {
+            write_cells(&mut self.places[key].cells, 0, values);
         }
     }
 }

@@ -1,16 +1,26 @@
-use Rattle.std.proofs.Common.{ℕ, ap, sym, ◌∙◌}
-use Rattle.rref_heap.specs.Spots.{spot_of, spot_in, one_fewer}
-use Rattle.rref_heap.proofs.Spots.{set_back, not_there, taken_within}
+use Rattle.std.proofs.Common.{◌≡◌, refl, ℕ, ap, sym, ◌∙◌, Some, None}
+use Rattle.rref_heap.specs.Spots.{one_fewer, spot_of}
+use Rattle.rref_heap.specs.Keyed.{key_at}
+use Rattle.rref_heap.proofs.Keyed.{changed, changed_keyed, untouched, at_key}
 use Rattle.rref_heap.proofs.places.Places.give_back.Goals as goal
 
-pub put-requires-clause-some : goal.put-requires-clause-some
-put-requires-clause-some c = (taken_within c.args.self.now.spots c.take.new.self c.args.self.now.spare c.args.number (spot_of c.in-Some.place) c.in-Some.ensures.numbered c.in-Some.ensures.value c.in-Some.ensures.rest).0
-
-pub put-requires-clause-within : goal.put-requires-clause-within
-put-requires-clause-within c = (taken_within c.args.self.now.spots c.take.new.self c.args.self.now.spare c.args.number (spot_of c.in-Some.place) c.in-Some.ensures.numbered c.in-Some.ensures.value c.in-Some.ensures.rest).1
+pub invariant_of-self : goal.invariant_of-self
+invariant_of-self c =
+    let is : key_at c.self.inside.keys.items c.args.number ≡ Some c.in-Some.key = rw c.deref.ensures.value at (sym c.in-Some.ensures) in
+    changed_keyed c.self.invariant c.args.number c.in-Some.key c.index_mut.result.now _ is c.index_mut.ensures.value refl
 
 pub returns-clause-loans : goal.returns-clause-loans
-returns-clause-loans c = set_back c.args.self.now c.take.new.self c.put.new.self c.args.number one_fewer (spot_of c.in-Some.place) _ c.in-Some.ensures.numbered c.in-Some.ensures.value c.in-Some.ensures.rest (ap (λ (k : ℕ). record (spot_of c.in-Some.place) { loans = k }) c.give_back_word-free.ensures.loans) c.put.ensures
+returns-clause-loans c =
+    let is : key_at c.self.inside.keys.items c.args.number ≡ Some c.in-Some.key = rw c.deref.ensures.value at (sym c.in-Some.ensures) in
+    rw (← c.self.view_is) (changed c.self.invariant c.args.number c.in-Some.key one_fewer c.index_mut.result.now _ is c.index_mut.ensures.value (ap (λ (k : ℕ). record (spot_of c.index_mut.result.now) { loans = k }) c.give_back_word.ensures.loans))
 
 pub returns-in_default-clause-loans : goal.returns-in_default-clause-loans
-returns-in_default-clause-loans c = not_there c.args.self.now c.take.new.self c.args.number one_fewer c.take.ensures.numbered (ap (λ x. spot_in x) (sym c.in_default.is) ∙ c.take.ensures.value) c.take.ensures.rest
+returns-in_default-clause-loans c =
+    let is : key_at c.self.inside.keys.items c.args.number ≡ None = rw c.deref.ensures.value at (sym c.key_of.ensures ∙ c.in_default.is) in
+    rw (← c.self.view_is) (untouched c.self.invariant c.args.number one_fewer is)
+
+pub give_back_word-requires : goal.give_back_word-requires
+give_back_word-requires c =
+    let is : key_at c.self.inside.keys.items c.args.number ≡ Some c.in-Some.key = rw c.deref.ensures.value at (sym c.in-Some.ensures) in
+    let need = c.requires (spot_of c.index_mut.result.now) (rw (← c.self.view_is) (at_key c.self.invariant c.args.number c.in-Some.key c.index_mut.result.now is c.index_mut.ensures.value)) in
+    need
