@@ -19,7 +19,9 @@ pub(crate) fn told(status: Status) -> Option<&'static str>
             "redleaf: standard output can't be written, so the answer is cut off\n",
         ),
         Status::Memory => Some("redleaf: there isn't enough memory\n"),
-        Status::Long => Some("redleaf: the history is full, with 262144 entries\n"),
+        Status::Long => Some(
+            "redleaf: the history is full: no step begins at 262144 entries or more\n",
+        ),
         Status::TooLong => Some("redleaf: the bundle is longer than 1048576 bytes\n"),
     }
 }

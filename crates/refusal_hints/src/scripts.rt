@@ -345,6 +345,18 @@ fn tell_given(
                 b"`",
             ])
         }
+        Misfit::Kind(Held::Lent(of), line) => {
+            let line = digits(case.alloc, line)?;
+            hint.found(&[
+                b"`&",
+                word,
+                b"`, a loan of the `",
+                of,
+                b"` that line ",
+                line.as_slice(),
+                b" binds",
+            ])
+        }
         Misfit::Kind(held, line) => {
             let line = digits(case.alloc, line)?;
             let text = held.in_words(case.alloc)?;

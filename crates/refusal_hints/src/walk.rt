@@ -229,7 +229,16 @@ impl<'t, 'a> Walk<'t, 'a> {
         if self.place >= self.row.len() {
             return Ok(());
         }
-        self.list(tail)
+        self.list(tail)?;
+        self.list_end()
+    }
+
+    // Passes nothing, where nothing is left behind the last part of a list.
+    fn list_end(&self) -> Result<(), Miss> {
+        if self.place >= self.row.len() {
+            return Ok(());
+        }
+        Err(self.miss(b"`,` or the end of the line"))
     }
 
     // Passes what a head says of a register.
@@ -285,11 +294,16 @@ impl<'t, 'a> Walk<'t, 'a> {
         self.arguments(Tail::CodeCall)?;
         if self.skip(b"->") {
             self.list(Tail::Registers)?;
+            self.token(
+                b"else",
+                b"`,` or `else E, LABEL`: where the call fails, E holds why, and control goes to LABEL",
+            )?;
+        } else {
+            self.token(
+                b"else",
+                b"`else E, LABEL`: where the call fails, E holds why, and control goes to LABEL",
+            )?;
         }
-        self.token(
-            b"else",
-            b"`else E, LABEL`: where the call fails, E holds why, and control goes to LABEL",
-        )?;
         self.pattern(b"r,n")
     }
 
@@ -297,7 +311,8 @@ impl<'t, 'a> Walk<'t, 'a> {
         self.pattern(b"n.n(")?;
         self.arguments(Tail::ScriptCall)?;
         if self.skip(b"->") {
-            return self.list(Tail::Names);
+            self.list(Tail::Names)?;
+            return self.list_end();
         }
         Ok(())
     }
