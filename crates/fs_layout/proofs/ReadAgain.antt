@@ -1,10 +1,10 @@
 -- Each value has its words, and the words their value.
-use Rattle.std.proofs.Common.{◌≡◌, ◌≢◌, ◌⊎◌, ℕ, zero, suc, ◌+◌, ◌-◌, ◌*◌, ◌<◌, ◌≤◌, Bool, true, false, inl, inr, List, length, Option, Some, None, refl, ap, sym, subst, ◌∙◌, arith, slice_index}
+use Rattle.std.proofs.Common.{◌≡◌, ◌⊎◌, ℕ, zero, suc, ◌+◌, ◌-◌, ◌*◌, ◌<◌, ◌≤◌, Bool, true, false, inl, inr, List, Option, Some, None, refl, ap, sym, subst, ◌∙◌, arith, slice_index}
 use Rattle.std.proofs.lemmas.Grind.{same_number_lists}
 use Rattle.fs_layout.specs.declared.dir_entry.DirEntry.{DirEntry}
 use Rattle.fs_layout.specs.declared.inode.Inode.{Inode}
 use Rattle.fs_layout.specs.declared.superblock.Super.{Super}
-use Rattle.fs_layout.specs.Forms.{word, IsSuper, IsNoSuper, used_word, IsInode, IsNoInode, lead_of, IsEntry, IsNoEntry, AreMarked, HasUnmarked}
+use Rattle.fs_layout.specs.Forms.{word_at, IsSuper, IsNoSuper, used_word, IsInode, IsNoInode, lead_of, IsEntry, IsNoEntry}
 use Rattle.fs_layout.specs.Laws.{SameWords, SuperIsReadAgain, InodeIsReadAgain, EntryIsReadAgain, BitmapIsReadAgain}
 
 -- a number is below another or not
@@ -52,19 +52,19 @@ inode_value b at i j p q =
     λ z. record { used = used z; len = len z; blocks = blocks z }
 
 -- the words from the numbers of blocks on
-inode_tail : (b c : List ℕ) (at : ℕ) (i : Inode) → IsInode b at i → IsInode c at i → (k : ℕ) → 2 ≤ k → k < 16 → word b (16 * at + k) ≡ word c (16 * at + k)
+inode_tail : (b c : List ℕ) (at : ℕ) (i : Inode) → IsInode b at i → IsInode c at i → (k : ℕ) → 2 ≤ k → k < 16 → word_at b (16 * at + k) ≡ word_at c (16 * at + k)
 inode_tail b c at i p q k low high = elim (below_or_not k 10) [
-  | inl number ↦ subst (λ m. word b m ≡ word c m) (omega arith) (p.blocks (k - 2) (omega arith) ∙ sym (q.blocks (k - 2) (omega arith)))
-  | inr rest ↦ subst (λ m. word b m ≡ word c m) (omega arith) (p.zeros (k - 10) (omega arith) ∙ sym (q.zeros (k - 10) (omega arith)))
+  | inl number ↦ subst (λ m. word_at b m ≡ word_at c m) (omega arith) (p.blocks (k - 2) (omega arith) ∙ sym (q.blocks (k - 2) (omega arith)))
+  | inr rest ↦ subst (λ m. word_at b m ≡ word_at c m) (omega arith) (p.zeros (k - 10) (omega arith) ∙ sym (q.zeros (k - 10) (omega arith)))
 ]
 
-inode_word : (b c : List ℕ) (at : ℕ) (i : Inode) → IsInode b at i → IsInode c at i → (k : ℕ) → k < 16 → word b (16 * at + k) ≡ word c (16 * at + k)
-inode_word b c at i p q zero high = subst (λ m. word b m ≡ word c m) (omega arith) (p.used ∙ sym q.used)
+inode_word : (b c : List ℕ) (at : ℕ) (i : Inode) → IsInode b at i → IsInode c at i → (k : ℕ) → k < 16 → word_at b (16 * at + k) ≡ word_at c (16 * at + k)
+inode_word b c at i p q zero high = subst (λ m. word_at b m ≡ word_at c m) (omega arith) (p.used ∙ sym q.used)
 inode_word b c at i p q (suc zero) high = p.len ∙ sym q.len
 inode_word b c at i p q (suc (suc k)) high = inode_tail b c at i p q (suc (suc k)) (omega arith) high
 
 inode_block : (b c : List ℕ) (at : ℕ) (i : Inode) → IsInode b at i → IsInode c at i → SameWords (16 * at) (16 * at + 16) b c
-inode_block b c at i p q k low high = at_place (λ m. word b m ≡ word c m) (16 * at) k low (inode_word b c at i p q (k - 16 * at) (omega arith))
+inode_block b c at i p q k low high = at_place (λ m. word_at b m ≡ word_at c m) (16 * at) k low (inode_word b c at i p q (k - 16 * at) (omega arith))
 
 used_is_bit : (x : Bool) → used_word x ≤ 1
 used_is_bit true = omega arith
@@ -98,15 +98,15 @@ entry_value b at e f p q =
     let name : e.name ≡ f.name = same_number_lists _ _ (p.three ∙ sym q.three) (λ k low. name_word b at e f p q k (omega (arith, low, p.three))) in
     λ z. record { ino = ino z; name = name z }
 
-entry_word : (b c : List ℕ) (at : ℕ) (e : DirEntry) → IsEntry b at e → IsEntry c at e → (k : ℕ) → k < 4 → word b (4 * at + k) ≡ word c (4 * at + k)
-entry_word b c at e p q zero high = subst (λ m. word b m ≡ word c m) (omega arith) (p.lead ∙ sym q.lead)
+entry_word : (b c : List ℕ) (at : ℕ) (e : DirEntry) → IsEntry b at e → IsEntry c at e → (k : ℕ) → k < 4 → word_at b (4 * at + k) ≡ word_at c (4 * at + k)
+entry_word b c at e p q zero high = subst (λ m. word_at b m ≡ word_at c m) (omega arith) (p.lead ∙ sym q.lead)
 entry_word b c at e p q (suc zero) high = p.first ∙ sym q.first
 entry_word b c at e p q (suc (suc zero)) high = p.second ∙ sym q.second
 entry_word b c at e p q (suc (suc (suc zero))) high = p.third ∙ sym q.third
 entry_word b c at e p q (suc (suc (suc (suc k)))) high = absurd (omega (arith, high))
 
 entry_block : (b c : List ℕ) (at : ℕ) (e : DirEntry) → IsEntry b at e → IsEntry c at e → SameWords (4 * at) (4 * at + 4) b c
-entry_block b c at e p q k low high = at_place (λ m. word b m ≡ word c m) (4 * at) k low (entry_word b c at e p q (k - 4 * at) (omega arith))
+entry_block b c at e p q k low high = at_place (λ m. word_at b m ≡ word_at c m) (4 * at) k low (entry_word b c at e p q (k - 4 * at) (omega arith))
 
 entry_not_refused : (b : List ℕ) (at : ℕ) (e : DirEntry) → IsEntry b at e → ¬ IsNoEntry b at
 entry_not_refused b at e p above = absurd (omega (arith, p.lead, p.few, above))
